@@ -1,0 +1,34 @@
+-- What each answer of the code says in 01's terms: its value, or its number and place. Assumes nothing.
+use mathlib.Core.Bool.{Bool, true, false}
+use Prim.Native.Nat.{ℕ}
+use Rattle.trace.specs.Answer.{Answer, value, refused, torn, idleByte, shortBin}
+use Rattle.trace.specs.Record.{Item, word, end}
+use Rattle.trace.specs.declared.Read.{Read}
+use Rattle.trace.specs.declared.Read.the-variants as read
+use Rattle.trace.specs.declared.record.Merged.{Merged}
+use Rattle.trace.specs.declared.record.Merged.the-variants as merged
+use Rattle.trace.specs.declared.TraceRead.{TraceRead}
+use Rattle.trace.specs.declared.TraceRead.the-variants as traceRead
+use Rattle.trace.specs.declared.Written.{Written}
+use Rattle.trace.specs.declared.Written.the-variants as written
+
+abbrev pub shownRead : Read → Answer Item
+shownRead (read.Word w n) = value (word w n)
+shownRead read.End = value end
+shownRead (read.Torn at) = refused torn at
+shownRead (read.Idle at) = refused idleByte at
+
+abbrev pub shownWritten : Written → Answer ℕ
+shownWritten (written.Length n) = value n
+shownWritten written.Short = refused shortBin 0
+
+abbrev pub shownTrace : TraceRead → Answer ℕ
+shownTrace (traceRead.Words n) = value n
+shownTrace (traceRead.Torn at) = refused torn at
+shownTrace (traceRead.Idle at) = refused idleByte at
+shownTrace traceRead.Short = refused shortBin 0
+
+-- inside the reader: whether a byte is idle, else the word
+abbrev pub mergedOf : Bool → ℕ → Merged
+mergedOf true w = merged.Idle
+mergedOf false w = merged.Word w
