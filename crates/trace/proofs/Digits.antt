@@ -1,8 +1,8 @@
 -- Laws of `digit` and `number`, once for every width of a digit: bits of a map and bytes of a word are two uses. Assumes nothing.
-use mathlib.Core.Path.{_≡_, refl, sym, ap, ap₂, _∙_, subst}
+use mathlib.Core.Path.{_≡_, refl, sym, ap₂, _∙_}
 use mathlib.Core.Logic.{⊎-elim}
-use Prim.Native.Nat.{ℕ, zero, suc, _+_, _-_, _*_, _/_, _%_, _^_, _≤_, _<_}
-use native.Mathlib.Nat.{add-comm, add-assoc, mul-suc, mul-zero, mul-comm, mul-assoc, mul-add, mod-lt, mod-one, mod-eq-of-lt, add-mul-mod-self-right, le-dest, le-of-suc-le-suc, eq-or-lt-of-le, not-suc-le-zero}
+use Prim.Native.Nat.{ℕ, zero, suc, _+_, _*_, _/_, _%_, _^_, _<_}
+use native.Mathlib.Nat.{add-comm, mul-suc, mul-zero, mul-comm, mul-assoc, mul-add, mod-lt, mod-one, mod-eq-of-lt, add-mul-mod-self-right, le-dest, le-of-suc-le-suc, eq-or-lt-of-le, not-suc-le-zero}
 use native.Mathlib.Omega.{arith}
 use lib.Pow.{pow-pos, pow-add, high, field, mod-pow-add}
 use lib.Arith.{digits-lt}

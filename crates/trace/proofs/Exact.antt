@@ -1,5 +1,5 @@
 -- Reading one record answers exactly by 01's words, and looks at no byte past it. Assumes nothing.
-use mathlib.Core.Path.{_≡_, refl, sym, ap, ap₂, _∙_, subst}
+use mathlib.Core.Path.{_≡_, refl, sym, ap, ap₂, _∙_}
 use mathlib.Core.Logic.{_⊎_, inl, inr, ⊎-elim, _↔_}
 use mathlib.Core.Bool.{Bool, true, false, _||_, _&&_}
 use mathlib.Core.List.{List, [], _∷_, _++_}
@@ -7,9 +7,9 @@ use Prim.Native.Nat.{ℕ, zero, suc, _+_, _≤_, _<_}
 use native.Mathlib.Nat.{le-refl, le-trans, le-add-right}
 use native.Mathlib.Omega.{arith}
 use lib.Dec.{eqb, ltb}
-use lib.ListN.{length, getD, length-append, List·getD-append}
+use lib.ListN.{length, length-append, List·getD-append}
 use borrow.Author.Tests.{eqb-true, lt-ltb, le-ltb, ltb-true, ltb-false}
-use Rattle.trace.specs.Answer.{Answer, value, refused, torn, idleByte}
+use Rattle.trace.specs.Answer.{value, refused, torn, idleByte}
 use Rattle.trace.specs.Record.{Item, word, end, bit, byte, count, givenFor, newByte, merged, idleAt, idle, judged, readRecord}
 use Rattle.trace.proofs.Bits.{bit-cases, count-mono}
 use Rattle.trace.proofs.Digits.{number-ext}

@@ -9,7 +9,7 @@ use denote.Enum.Declared.{tagOf}
 use types.Run.{OneOf}
 use borrow.Author.Tests.{lt-ltb, le-ltb}
 use Rattle.trace.specs.Answer.{Answer, value, refused, shortBin}
-use Rattle.trace.specs.Whole.{Lent, counted, lend, lendAnswer}
+use Rattle.trace.specs.Whole.{counted, lend, lendAnswer}
 use Rattle.trace.specs.Shown.{shownTrace}
 use Rattle.trace.specs.declared.TraceRead.{TraceRead}
 use Rattle.trace.specs.declared.TraceRead.the-variants as traceRead

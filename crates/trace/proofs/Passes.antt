@@ -2,22 +2,21 @@
 use mathlib.Core.Path.{_≡_, refl, sym, ap, ap₂, _∙_, subst}
 use mathlib.Core.Logic.{⊎-elim}
 use mathlib.Core.List.{List, [], _∷_, _++_, append-assoc, append-nil}
-use Prim.Native.Nat.{ℕ, zero, suc, _+_, _-_, _*_, _≤_, _<_}
+use Prim.Native.Nat.{ℕ, suc, _+_, _-_, _*_, _≤_, _<_}
 use native.Mathlib.Nat.{zero-add, add-zero, add-assoc, suc-add, add-suc, le-refl, le-of-eq}
-use native.Mathlib.Numerals.{add-one, one-add}
+use native.Mathlib.Numerals.{add-one}
 use native.Mathlib.Omega.{arith}
 use lib.ListN.{length, getD, take, drop, set, length-drop, length-set, length-append, take-append-drop, drop-of-length-le}
-use lib.Seq.{drop-drop, drop-cons, drop-length, take-length, take-all, take-suc-set, drop-set-lt, length-take-le, take-at, drop-at}
+use lib.Seq.{drop-drop, drop-cons, take-suc-set, drop-set-lt, length-take-le, take-at, drop-at}
 use denote.Enum.Declared.{tagOf}
 use types.Run.{OneOf}
 use Rattle.trace.specs.Answer.{Answer, value, refused, torn, idleByte}
 use Rattle.trace.specs.Record.{Item, word, end, readRecord, written}
-use Rattle.trace.specs.Whole.{writeAll, writeTrace, after, readRest, readTrace, counted, lend, lendAnswer}
+use Rattle.trace.specs.Whole.{writeAll, writeTrace, after, readRest, readTrace, counted, lendAnswer}
 use Rattle.trace.specs.Shown.{shownRead}
 use Rattle.trace.specs.declared.Read.{Read}
 use Rattle.trace.specs.declared.Read.the-variants as read
 use Rattle.trace.proofs.Read.{the-type}
-use Rattle.trace.proofs.Bits.{count-le}
 use Rattle.trace.proofs.Lending.{lend-fits}
 use Rattle.trace.proofs.Lists.{part-rest}
 use Rattle.trace.proofs.Clash.{clash}

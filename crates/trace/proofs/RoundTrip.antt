@@ -1,23 +1,23 @@
 -- One record there and back: the writer's record reads as its word, and what reads as a word is the writer's record. Assumes nothing.
-use mathlib.Core.Path.{_≡_, refl, sym, ap, ap₂, _∙_, subst}
+use mathlib.Core.Path.{_≡_, refl, sym, ap, _∙_, subst}
 use mathlib.Core.Logic.{_⊎_, inl, inr, ⊎-elim}
 use mathlib.Core.Bool.{Bool, true, false, false≢true}
 use mathlib.Core.List.{List, [], _∷_, _++_, append-assoc, append-nil}
-use Prim.Native.Nat.{ℕ, zero, suc, _+_, _*_, _%_, _^_, _≤_, _<_}
+use Prim.Native.Nat.{ℕ, zero, suc, _+_, _^_, _≤_, _<_}
 use native.Mathlib.Nat.{eq-or-lt-of-le, le-of-suc-le-suc, not-suc-le-zero, mod-eq-of-lt, le-refl, le-add-right, add-zero}
 use native.Mathlib.Numerals.{add-one, one-add}
 use native.Mathlib.Omega.{arith}
 use lib.Dec.{eqb, ltb}
 use lib.ListN.{length, getD, take, drop, replicate, length-append, take-append-drop}
 use lib.Seq.{getD-at, take-suc, length-take-le}
-use borrow.Author.Tests.{eqb-true, eqb-false, ne-eqb, eq-eqb, le-ltb, ltb-false}
-use Rattle.trace.specs.Answer.{Answer, value, refused, torn, idleByte}
-use Rattle.trace.specs.Record.{Item, word, end, digit, number, bit, byte, count, picked, recordOf, unlike, differs, changes, written, givenFor, choose, newByte, merged, idleAt, idle, judged, readRecord}
+use borrow.Author.Tests.{eqb-true, eqb-false, ne-eqb, le-ltb, ltb-false}
+use Rattle.trace.specs.Answer.{value}
+use Rattle.trace.specs.Record.{word, end, bit, byte, count, picked, recordOf, differs, changes, written, givenFor, newByte, merged, idleAt, idle, judged, readRecord}
 use Rattle.trace.proofs.Bits.{bit-cases, count-mono}
 use Rattle.trace.proofs.Clash.{clash}
-use Rattle.trace.proofs.Digits.{digit-lt, digit-number, number-digits, number-ext}
+use Rattle.trace.proofs.Digits.{digit-number, number-digits, number-ext}
 use Rattle.trace.proofs.Merge.{idle-here, newByte-lt, merged-lt, newByte-given, newByte-kept, or-false, and-left-false, and-right-false}
-use Rattle.trace.proofs.Writing.{differs-lt, differs-one, differs-none, picked-length, record-length}
+use Rattle.trace.proofs.Writing.{differs-lt, differs-one, differs-none, picked-length}
 
 -- ---- what the writer wrote reads as its word
 

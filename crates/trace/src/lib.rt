@@ -14,6 +14,7 @@ pub use whole::write_trace;
 ghost use mathlib.Core.Path.{_≡_};
 ghost use Rattle.trace.specs.Record.{written};
 ghost use Rattle.trace.specs.Whole.{lend, numberOrZero};
+ghost use Rattle.trace.specs.Shown.{shownTrace, shownWritten};
 
 pub enum Read {
     // A word, and its record's length in bytes.
@@ -33,6 +34,18 @@ pub enum Written {
     Short,
 }
 
+impl Written {
+    // The number of bytes written, or 0.
+    pub fn or_zero(self) -> usize
+        ensures { λ r. ⌜ r ≡ numberOrZero (shownWritten self) ⌝ }
+    {
+        match self {
+            Written::Length(length) => length,
+            Written::Short => 0,
+        }
+    }
+}
+
 pub enum TraceRead {
     // This many words were read, to the end.
     Words(usize),
@@ -44,14 +57,25 @@ pub enum TraceRead {
     Short,
 }
 
+impl TraceRead {
+    // The number of words read, or 0.
+    pub fn or_zero(self) -> usize
+        ensures { λ r. ⌜ r ≡ numberOrZero (shownTrace self) ⌝ }
+    {
+        match self {
+            TraceRead::Words(n) => n,
+            TraceRead::Torn(_) => 0,
+            TraceRead::Idle(_) => 0,
+            TraceRead::Short => 0,
+        }
+    }
+}
+
 // The C entry: writes the record of a word, and returns its length, or 0 where the range is too
 // short for it.
 #[no_mangle]
 pub extern "C" fn linewatch_write_record(before: u64, word: u64, out: &mut [u8]) -> usize
     ensures { λ r. ⌜ (r ≡ numberOrZero (lend (written before word) (now (out .entry)) .answer)) × (now (out .exit) ≡ lend (written before word) (now (out .entry)) .list) ⌝ }
 {
-    match write_record(before, word, out) {
-        Written::Length(length) => length,
-        Written::Short => 0,
-    }
+    write_record(before, word, out).or_zero()
 }

@@ -3,9 +3,9 @@
 use super::Read;
 use super::Written;
 ghost use mathlib.Core.Path.{_≡_};
-ghost use mathlib.Core.List.{_∷_, _++_};
-ghost use Prim.Native.Nat.{_+_, _*_, _/_, _%_, _^_, _≤_, _<_};
-ghost use lib.ListN.{getD, length, drop};
+ghost use mathlib.Core.List.{_++_};
+ghost use Prim.Native.Nat.{_+_, _*_, _%_, _^_, _≤_, _<_};
+ghost use lib.ListN.{length, drop};
 ghost use Rattle.trace.specs.Record.{bit, byte, count, changes, recordOf, written, readRecord, idle, merged};
 ghost use Rattle.trace.specs.Whole.{readAt, lend};
 ghost use Rattle.trace.specs.Shown.{shownRead, shownWritten, mergedOf};

@@ -1,7 +1,6 @@
 -- `trace_cases::bins` meets its contract. Assumes nothing.
 use mathlib.Core.Path.{_≡_}
 use Prim.Native.Nat.{_-_, _≤_}
-use native.Mathlib.Omega.{arith}
 use borrow.Author.Needs.{needs}
 use Rattle.trace_cases.proofs.bins.Statement.{statement}
 use Rattle.trace_cases.proofs.bins.Tie as tie

@@ -1,6 +1,5 @@
 -- `trace_cases::cuts` meets its contract. Assumes nothing.
 use Prim.Native.Nat.{_-_, _≤_}
-use native.Mathlib.Omega.{arith}
 use borrow.Author.Needs.{needs}
 use Rattle.trace_cases.proofs.cuts.Statement.{statement}
 use Rattle.trace_cases.proofs.cuts.Tie as tie

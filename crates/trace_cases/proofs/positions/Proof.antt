@@ -1,10 +1,8 @@
 -- `trace_cases::positions` meets its contract. Assumes nothing.
 use Prim.Native.Nat.{_-_, _≤_}
-use native.Mathlib.Omega.{arith}
 use borrow.Author.Needs.{needs}
 use Rattle.trace_cases.proofs.positions.Statement.{statement}
 use Rattle.trace_cases.proofs.positions.Tie as tie
-use Rattle.trace.proofs.read_at.Reads as read-at-reads
 
 abbrev Inv-loop : tie.InvT-loop
 Inv-loop records at₀ at = at ≤ 8

@@ -1,14 +1,11 @@
 -- `trace::record::changes` meets its contract. After i turns the map has the bits of the changed bytes below i. Assumes nothing.
 use mathlib.Core.Path.{sym, _∙_, subst, refl}
 use mathlib.Core.Logic.{⊎-elim}
-use Prim.Native.Nat.{_-_, _+_, _<_}
+use Prim.Native.Nat.{_-_, _<_}
 use native.Mathlib.Omega.{arith}
 use Rattle.trace.proofs.Writing.{Changing, changing-none, changing-differs, changing-same, changing-done, changes-lt}
 use Rattle.trace.proofs.record.changes.Statement.{statement}
 use Rattle.trace.proofs.record.changes.Tie as tie
-use Rattle.trace.proofs.record.changes.Reads as reads
-use Rattle.trace.proofs.record.changes.Lts as lts
-use Rattle.trace.proofs.record.byte.Reads as byte-reads
 
 abbrev Inv-loop : tie.InvT-loop
 Inv-loop before word map₀ i₀ map i = Changing before word map i

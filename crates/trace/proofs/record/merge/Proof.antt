@@ -1,16 +1,11 @@
-use mathlib.Core.Path.{refl, sym, _∙_, subst}
+-- `trace::record::merge` meets its contract. After i turns the word has the new bytes below i, and none of them was idle. Assumes nothing.
+use mathlib.Core.Path.{sym, _∙_, subst}
 use mathlib.Core.Logic.{⊎-elim}
 use Prim.Native.Nat.{_-_, _+_, _^_, _<_}
 use native.Mathlib.Omega.{arith}
-use Rattle.trace.specs.Shown.{mergedOf}
 use Rattle.trace.proofs.Merge.{Merging, merging-none, merging-given, merging-kept, merging-idle, merging-done, at-below, merged-lt}
 use Rattle.trace.proofs.record.merge.Statement.{statement}
 use Rattle.trace.proofs.record.merge.Tie as tie
-use Rattle.trace.proofs.record.merge.Reads as reads
-use Rattle.trace.proofs.record.merge.Lts as lts
-use Rattle.trace.proofs.record.at_place.Reads as at-place-reads
-use Rattle.trace.proofs.record.bit.Reads as bit-reads
-use Rattle.trace.proofs.record.byte.Reads as byte-reads
 
 abbrev Inv-loop : tie.InvT-loop
 Inv-loop given before map word₀ at₀ i₀ word at i = Merging given before map word at i
@@ -18,36 +13,29 @@ Inv-loop given before map word₀ at₀ i₀ word at i = Merging given before ma
 abbrev μ-loop : tie.MeasureT-loop
 μ-loop given before map word₀ at₀ i₀ word at i = 8 - i
 
--- src/record.rt:56:5
 loop-holds : tie.Need-loop-holds Inv-loop μ-loop
 loop-holds c = merging-none _ _ _
 
--- src/record.rt:57:13
 byte-requires : tie.Need-byte-requires Inv-loop μ-loop
 byte-requires c κs = omega arith
 
--- src/record.rt:59:12
 bit-requires : tie.Need-bit-requires Inv-loop μ-loop
 bit-requires c κs = omega arith
 
--- src/record.rt:60:19
 shared-slice-read-new : tie.Need-shared-slice-read-new Inv-loop μ-loop
 shared-slice-read-new c =
     let l = c .before .before .before .before .before .loop in
     at-below _ _ _ _ _ _ (l .inv) (omega arith) (sym (c .before .before .bit .ensures) ∙ c .before .if1 .taken) (c .before .before .before .before .before .before .before .pre)
 
--- src/record.rt:61:13
 add-at : tie.Need-add-at Inv-loop μ-loop
 add-at c = omega (arith, shared-slice-read-new c)
 
--- src/record.rt:63:17
 returns : tie.Need-returns Inv-loop μ-loop
 returns c =
     let l = c .before .before .before .before .before .before .loop in
     rw (merging-idle _ _ _ _ _ _ (l .inv) (omega arith) (sym (c .before .before .before .bit .ensures) ∙ c .before .before .if1 .taken)
     (c .if2 .taken ∙ c .before .before .before .before .byte .ensures))
 
--- src/record.rt:66:17
 at-place-requires : tie.Need-at-place-requires Inv-loop μ-loop
 at-place-requires c κs = omega arith
 
@@ -63,24 +51,19 @@ joined c =
     (λ w. merging-kept _ _ _ _ _ _ m (omega arith) _ _ _ (λ h. w .0 .left (c .before .before .bit .ensures ∙ h))
     (w .2 ∙ c .before .before .before .byte .ensures) (c .at-place .ensures) (w .1)) (c .before .if1 .came)
 
--- src/record.rt:66:9
 add-word : tie.Need-add-word Inv-loop μ-loop
 add-word c =
     record { fits = subst (λ n. n < 2 ^ 64) (sym (joined c .soFar)) (merged-lt _ _ _ (λ j. c .before .before .before .before .before .before .shared-slice-known .given j .fits) _ (joined c .within)) }
 
--- src/record.rt:67:9
 add-i : tie.Need-add-i Inv-loop μ-loop
 add-i c = omega arith
 
--- src/record.rt:56:5
 loop-less : tie.Need-loop-less Inv-loop μ-loop
 loop-less c = omega arith
 
--- src/record.rt:56:5
 loop-again : tie.Need-loop-again Inv-loop μ-loop
 loop-again c = joined c
 
--- src/record.rt:49:1
 returns-2 : tie.Need-returns-2 Inv-loop μ-loop
 returns-2 c =
     let d = merging-done _ _ _ _ _ _ (c .before .loop .inv) (omega arith) in

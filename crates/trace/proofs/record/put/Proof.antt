@@ -1,17 +1,13 @@
 -- `trace::record::put` meets its contract. After i turns the picked bytes below i stand behind the map. Assumes nothing.
-use mathlib.Core.Path.{sym, _∙_, subst, refl}
+use mathlib.Core.Path.{sym, _∙_}
 use mathlib.Core.Logic.{⊎-elim}
-use Prim.Native.Nat.{_-_, _+_, _<_}
+use Prim.Native.Nat.{_-_}
 use native.Mathlib.Omega.{arith}
 use lib.ListN.{length-set}
 use Rattle.trace.proofs.Bits.{count-le}
 use Rattle.trace.proofs.Writing.{Putting, putting-none, putting-byte, putting-skip, putting-done, put-below}
 use Rattle.trace.proofs.record.put.Statement.{statement}
 use Rattle.trace.proofs.record.put.Tie as tie
-use Rattle.trace.proofs.record.put.Reads as reads
-use Rattle.trace.proofs.record.put.Lts as lts
-use Rattle.trace.proofs.record.bit.Reads as bit-reads
-use Rattle.trace.proofs.record.byte.Reads as byte-reads
 
 abbrev Inv-loop : tie.InvT-loop
 Inv-loop map word out₀ at₀ i₀ out at i = Putting map word out₀ out at i

@@ -1,10 +1,8 @@
+-- `trace::record::read_at` meets its contract. Assumes nothing.
 use borrow.Author.Needs.{needs}
 use Rattle.trace.proofs.Reading.{at-past, at-within}
 use Rattle.trace.proofs.record.read_at.Statement.{statement}
 use Rattle.trace.proofs.record.read_at.Tie as tie
-use Rattle.trace.proofs.record.read_at.Reads as reads
-use Rattle.trace.proofs.record.read_at.Lts as lts
-use Rattle.trace.proofs.record.read_record.Reads as read-record-reads
 
 returns : tie.Need-returns
 returns c = at-past _ _ _ (c .if1 .taken)

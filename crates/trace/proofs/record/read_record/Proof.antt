@@ -1,11 +1,8 @@
+-- `trace::record::read_record` meets its contract. Assumes nothing.
 use borrow.Author.Needs.{needs}
 use Rattle.trace.proofs.Reading.{read-empty, read-torn, read-merged}
 use Rattle.trace.proofs.record.read_record.Statement.{statement}
 use Rattle.trace.proofs.record.read_record.Tie as tie
-use Rattle.trace.proofs.record.read_record.Reads as reads
-use Rattle.trace.proofs.record.read_record.Lts as lts
-use Rattle.trace.proofs.record.count.Reads as count-reads
-use Rattle.trace.proofs.record.merge.Reads as merge-reads
 
 returns : tie.Need-returns
 returns c = read-empty _ _ (c .if1 .taken)

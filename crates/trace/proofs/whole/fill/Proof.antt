@@ -1,7 +1,6 @@
 -- `trace::whole::fill` meets its contract: the words read so far are stored, and as long as one is missing the next record is a word. Assumes nothing.
 use Prim.Native.Nat.{_-_}
 use native.Mathlib.Omega.{arith}
-use lib.ListN.{length}
 use borrow.Author.Needs.{needs}
 use Rattle.trace.proofs.Passes.{Filling, filling-none, filling-word, filling-never, filling-done}
 use Rattle.trace.proofs.whole.fill.Statement.{statement}

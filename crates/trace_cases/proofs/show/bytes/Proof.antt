@@ -1,11 +1,9 @@
 -- `trace_cases::show::bytes` meets its contract. Assumes nothing.
 use Prim.Native.Nat.{_-_, _≤_}
 use lib.ListN.{length}
-use native.Mathlib.Omega.{arith}
 use borrow.Author.Needs.{needs}
 use Rattle.trace_cases.proofs.show.bytes.Statement.{statement}
 use Rattle.trace_cases.proofs.show.bytes.Tie as tie
-use Rattle.io.proofs.print_hex.Reads as print-hex-reads
 
 abbrev Inv-loop : tie.InvT-loop
 Inv-loop buffer i₀ i = i ≤ length buffer
