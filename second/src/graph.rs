@@ -1,0 +1,261 @@
+//! A monitor opened into its letters, with what can come first and next.
+//!
+//! These are the position automaton's relations (Glushkov's construction),
+//! worked out from the leaves up, with one addition: whoever moves on from a
+//! letter may leave left operands of `@` on the way, and so each step to a
+//! next letter carries the set of threads it starts.
+
+use crate::expr::{Expr, ExprId, Exprs};
+use crate::letter::Letter;
+use crate::set::Set;
+
+/// The number of a letter within its monitor, in reading order.
+pub type LetterNo = u8;
+
+/// The number of a run: something that starts at a tick of its own. Run 0 is
+/// the monitor itself, each other one a thread (the right operand of an `@`).
+pub type RunNo = u8;
+
+/// The monitor itself.
+pub const WHOLE: RunNo = 0;
+
+/// What stands behind a letter on one way out of it.
+#[derive(Clone, Copy, Debug, PartialEq, Eq)]
+pub enum Next {
+    /// One of these letters must come.
+    OneOf(Set),
+    /// The thread has ended: anything may come.
+    Anything,
+}
+
+/// A way on from a letter: at the following tick the threads in `starts`
+/// begin, and `next` comes.
+#[derive(Clone, Copy, Debug, PartialEq, Eq)]
+pub struct Way {
+    pub starts: Set,
+    pub next: Next,
+}
+
+/// An opened monitor.
+pub struct Graph {
+    pub letters: Vec<Letter>,
+    /// For each letter, the ways on from it.
+    pub ways: Vec<Vec<Way>>,
+    /// For each run, the letters that can come first.
+    pub first: Vec<Set>,
+}
+
+/// A last letter of a part, and the threads that start when the part is left
+/// from this letter.
+struct Exit {
+    letter: LetterNo,
+    starts: Set,
+}
+
+/// What its surroundings need to know of a part of the expression.
+struct Part {
+    nullable: bool,
+    first: Set,
+    last: Vec<Exit>,
+}
+
+impl Graph {
+    /// Opens an expression of at most 256 letters. A star's body may not be
+    /// nullable: this bounds the number of stars, and so the depth of the
+    /// recursion, by about twice the number of letters.
+    pub fn open(exprs: &Exprs, monitor: ExprId) -> Graph {
+        let mut graph = Graph {
+            letters: Vec::new(),
+            ways: Vec::new(),
+            first: vec![Set::EMPTY],
+        };
+        let whole = graph.part(exprs, monitor);
+        graph.first[usize::from(WHOLE)] = whole.first;
+        // The monitor is followed by itself for ever.
+        graph.connect(&whole.last, whole.first);
+        graph
+    }
+
+    fn part(&mut self, exprs: &Exprs, id: ExprId) -> Part {
+        match exprs.expr(id) {
+            Expr::Letter(number) => self.letter(exprs.letter(number)),
+            Expr::Star(body) => {
+                let body = self.part(exprs, body);
+                self.star(body)
+            }
+            Expr::Sequence(left, right) => {
+                let (left, right) = (self.part(exprs, left), self.part(exprs, right));
+                self.sequence(left, right)
+            }
+            Expr::Choice(left, right) => {
+                let (left, right) = (self.part(exprs, left), self.part(exprs, right));
+                choice(left, right)
+            }
+            Expr::Pipeline(left, right) => {
+                let (left, right) = (self.part(exprs, left), self.part(exprs, right));
+                self.pipeline(left, right)
+            }
+        }
+    }
+
+    fn letter(&mut self, letter: &Letter) -> Part {
+        let number = self.letters.len() as LetterNo;
+        self.letters.push(letter.clone());
+        self.ways.push(Vec::new());
+        let exit = Exit {
+            letter: number,
+            starts: Set::EMPTY,
+        };
+        Part {
+            nullable: false,
+            first: Set::of(number),
+            last: vec![exit],
+        }
+    }
+
+    /// `e*`: after e comes e again, or what follows the star.
+    fn star(&mut self, body: Part) -> Part {
+        self.connect(&body.last, body.first);
+        Part {
+            nullable: true,
+            ..body
+        }
+    }
+
+    /// `e , f`: after e comes f.
+    fn sequence(&mut self, mut left: Part, right: Part) -> Part {
+        self.connect(&left.last, right.first);
+        if left.nullable {
+            left.first.insert_all(&right.first);
+        }
+        let mut last = right.last;
+        if right.nullable {
+            last.append(&mut left.last);
+        }
+        Part {
+            nullable: left.nullable && right.nullable,
+            first: left.first,
+            last,
+        }
+    }
+
+    /// `e @ f`: leaving e starts f as a thread; after f comes anything, and
+    /// after e what follows the `@`.
+    fn pipeline(&mut self, mut left: Part, right: Part) -> Part {
+        let thread = self.first.len() as RunNo;
+        self.first.push(right.first);
+        for exit in right.last {
+            let way = Way {
+                starts: exit.starts,
+                next: Next::Anything,
+            };
+            self.ways[usize::from(exit.letter)].push(way);
+        }
+        for exit in &mut left.last {
+            exit.starts.insert(thread);
+        }
+        left
+    }
+
+    /// Lets each of the letters `next` come after each of the exits.
+    fn connect(&mut self, exits: &[Exit], next: Set) {
+        for exit in exits {
+            let way = Way {
+                starts: exit.starts,
+                next: Next::OneOf(next),
+            };
+            self.ways[usize::from(exit.letter)].push(way);
+        }
+    }
+}
+
+/// `e || f`: one of them.
+fn choice(mut left: Part, mut right: Part) -> Part {
+    left.first.insert_all(&right.first);
+    left.last.append(&mut right.last);
+    Part {
+        nullable: left.nullable || right.nullable,
+        ..left
+    }
+}
+
+#[cfg(test)]
+mod tests {
+    use super::*;
+    use crate::parse::parse;
+
+    fn graph(expression: &str) -> Graph {
+        let text = format!("input a; input b; input c; p -> {expression}; monitor p;");
+        let parsed = parse(text.as_bytes()).expect("the text keeps to the grammar");
+        Graph::open(&parsed.exprs, parsed.monitors[0])
+    }
+
+    fn set(numbers: &[u8]) -> Set {
+        let mut set = Set::EMPTY;
+        numbers.iter().for_each(|&number| set.insert(number));
+        set
+    }
+
+    fn one_of(starts: &[RunNo], letters: &[LetterNo]) -> Way {
+        Way {
+            starts: set(starts),
+            next: Next::OneOf(set(letters)),
+        }
+    }
+
+    fn anything(starts: &[RunNo]) -> Way {
+        Way {
+            starts: set(starts),
+            next: Next::Anything,
+        }
+    }
+
+    #[test]
+    fn a_thread_starts_only_when_its_left_operand_is_left() {
+        let graph = graph("(a, b*) @ c, !b");
+        assert_eq!(graph.first, [set(&[0]), set(&[2])]);
+        assert_eq!(graph.ways[0], [one_of(&[], &[1]), one_of(&[1], &[3])]);
+        assert_eq!(graph.ways[1], [one_of(&[], &[1]), one_of(&[1], &[3])]);
+        assert_eq!(graph.ways[2], [anything(&[])]);
+        assert_eq!(graph.ways[3], [one_of(&[], &[0])]);
+    }
+
+    #[test]
+    fn one_letter_can_leave_several_left_operands() {
+        let graph = graph("((a @ b) @ c)*, !a");
+        assert_eq!(graph.first, [set(&[0, 3]), set(&[1]), set(&[2])]);
+        assert_eq!(
+            graph.ways[0],
+            [one_of(&[1, 2], &[0]), one_of(&[1, 2], &[3])]
+        );
+        assert_eq!(graph.ways[3], [one_of(&[], &[0, 3])]);
+    }
+
+    #[test]
+    fn the_end_of_a_thread_can_start_another() {
+        let graph = graph("a @ (b @ c)");
+        assert_eq!(graph.first, [set(&[0]), set(&[2]), set(&[1])]);
+        assert_eq!(graph.ways[0], [one_of(&[2], &[0])]);
+        assert_eq!(graph.ways[1], [anything(&[1])]);
+        assert_eq!(graph.ways[2], [anything(&[])]);
+    }
+
+    #[test]
+    fn no_letter_is_reached_in_two_ways() {
+        for expression in [
+            "((a, b*)*, c*, a), (b* || c*)",
+            "(a, (b* || c*)) @ (b, c), (a || b*), c",
+            "((a @ b, c*)*, (b || c)) @ (a @ b), a*",
+        ] {
+            for ways in graph(expression).ways {
+                let mut seen = Set::EMPTY;
+                for way in ways {
+                    if let Next::OneOf(letters) = way.next {
+                        assert!(!seen.meets(&letters), "{expression}");
+                        seen.insert_all(&letters);
+                    }
+                }
+            }
+        }
+    }
+}

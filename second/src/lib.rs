@@ -1,0 +1,55 @@
+//! A plain second implementation of the line watch.
+//!
+//! It is written from the specification alone, so that the product can be
+//! compared with it. From rule text to verdict the way is:
+//!
+//! 1. `token` cuts the text into tokens,
+//! 2. `parse` reads the grammar and fills the tables of `letter` and `expr`,
+//! 3. `graph` opens a monitor into letters and "what can come next" relations,
+//! 4. `shape` judges the limits and the shape rules (numbers 8 to 12),
+//! 5. `fit` moves branches of a monitor over one word,
+//! 6. `watch` keeps the branches and the stores from tick to tick,
+//! 7. `record` reads and writes wire records, `sheet` prints.
+//!
+//! ```
+//! let text = b"input a; p -> a; monitor p;";
+//! let program = second::open(text).unwrap();
+//! let mut watch = second::Watch::new(&program);
+//! assert_eq!(watch.tick(1), second::Answer::Ok);
+//! assert_eq!(watch.tick(0), second::Answer::Bad(0));
+//! ```
+
+pub mod cases;
+pub mod record;
+pub mod refusal;
+
+mod expr;
+mod fit;
+mod graph;
+mod letter;
+mod parse;
+mod set;
+mod shape;
+mod sheet;
+mod token;
+mod watch;
+
+pub use refusal::{Place, Reason, Refusal};
+pub use shape::{open, Program};
+pub use sheet::sheet;
+pub use watch::{Answer, Watch};
+
+/// The numbers the specification sets as limits.
+pub mod limit {
+    pub const TEXT_BYTES: usize = 16_384;
+    pub const NAME_BYTES: usize = 16;
+    pub const NAMES: usize = 128;
+    pub const WIRES: u32 = 64;
+    pub const STORES: usize = 16;
+    pub const MONITORS: usize = 32;
+    pub const PARENTHESES: usize = 32;
+    pub const LETTERS: u32 = 256;
+    pub const STORE_TESTS: usize = 2;
+    pub const WRITES: usize = 2;
+    pub const TICKS: u32 = 1_000_000;
+}

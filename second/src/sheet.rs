@@ -1,0 +1,53 @@
+//! The printed sheet: a rule text run over a trace.
+
+use std::io::Write;
+
+use crate::record;
+use crate::refusal::Refusal;
+use crate::shape::{open, Program};
+use crate::watch::{Answer, Watch};
+
+/// The whole sheet of a rule text and a trace of records.
+pub fn sheet(text: &[u8], trace: &[u8]) -> Vec<u8> {
+    let mut lines = Lines(Vec::new());
+    match open(text) {
+        Ok(program) => run(&program, trace, &mut lines),
+        Err(refusal) => lines.put(refusal),
+    }
+    lines.0
+}
+
+struct Lines(Vec<u8>);
+
+impl Lines {
+    fn put(&mut self, line: impl std::fmt::Display) {
+        writeln!(self.0, "{line}").expect("a vector takes every write");
+    }
+}
+
+fn run(program: &Program, trace: &[u8], lines: &mut Lines) {
+    lines.put(format_args!(
+        "rows {} letters {}",
+        program.rows(),
+        program.letters()
+    ));
+    let mut watch = Watch::new(program);
+    let mut begin = 0;
+    let mut word = 0;
+    loop {
+        let tick = watch.ticks();
+        match record::read(trace, begin, word) {
+            Ok(None) => return lines.put(format_args!("clean {tick}")),
+            Ok(Some(record)) => (word, begin) = (record.word, record.end),
+            // The record reader names a byte, the sheet the tick.
+            Err(refusal) => return lines.put(Refusal::at_tick(refusal.reason, tick)),
+        }
+        match watch.tick(word) {
+            Answer::Ok => lines.put(format_args!("{tick} {word:016x} ok")),
+            Answer::Bad(monitor) => {
+                return lines.put(format_args!("{tick} {word:016x} bad {monitor}"))
+            }
+            Answer::Refused(refusal) => return lines.put(refusal),
+        }
+    }
+}

@@ -1,0 +1,237 @@
+//! The lexer: cuts the rule text into tokens, one at a time.
+
+use crate::limit;
+
+/// One token of the rule text.
+#[derive(Clone, Copy, Debug, PartialEq, Eq)]
+pub enum Token<'t> {
+    Name(&'t [u8]),
+    Number(u64),
+    // The reserved words.
+    Input,
+    Internal,
+    Define,
+    Monitor,
+    // The signs.
+    Semicolon,
+    Comma,
+    At,
+    Star,
+    And,
+    Not,
+    OpenParen,
+    CloseParen,
+    OpenBracket,
+    CloseBracket,
+    OpenBrace,
+    CloseBrace,
+    Colon,
+    Assign,
+    Equals,
+    Or,
+    Produces,
+    Takes,
+    /// No token stands here, or a name or number is too long
+    /// (the specification's "knot").
+    Knot,
+    /// The end of the text.
+    End,
+}
+
+/// The signs, those of two characters first so that the longest is taken.
+const SIGNS: [(&[u8], Token<'static>); 18] = [
+    (b"==", Token::Equals),
+    (b"||", Token::Or),
+    (b"->", Token::Produces),
+    (b"<-", Token::Takes),
+    (b";", Token::Semicolon),
+    (b",", Token::Comma),
+    (b"@", Token::At),
+    (b"*", Token::Star),
+    (b"&", Token::And),
+    (b"!", Token::Not),
+    (b"(", Token::OpenParen),
+    (b")", Token::CloseParen),
+    (b"[", Token::OpenBracket),
+    (b"]", Token::CloseBracket),
+    (b"{", Token::OpenBrace),
+    (b"}", Token::CloseBrace),
+    (b":", Token::Colon),
+    (b"=", Token::Assign),
+];
+
+/// Reads tokens from front to back.
+pub struct Lexer<'t> {
+    text: &'t [u8],
+    at: usize,
+}
+
+impl<'t> Lexer<'t> {
+    pub fn new(text: &'t [u8]) -> Self {
+        Lexer { text, at: 0 }
+    }
+
+    /// The next token and its first byte; at the end, the text's length.
+    pub fn advance(&mut self) -> (Token<'t>, usize) {
+        self.at += run_length(&self.text[self.at..], is_blank);
+        let begin = self.at;
+        let (token, length) = token_at(&self.text[begin..]);
+        self.at += length;
+        (token, begin)
+    }
+}
+
+/// The token that begins at the first byte of `rest`, and its length.
+fn token_at(rest: &[u8]) -> (Token<'_>, usize) {
+    match rest.first() {
+        None => (Token::End, 0),
+        Some(&byte) if byte.is_ascii_digit() => {
+            let length = run_length(rest, |b| b.is_ascii_digit());
+            (number(&rest[..length]), length)
+        }
+        Some(&byte) if is_name_byte(byte) => {
+            let length = run_length(rest, is_name_byte);
+            (word(&rest[..length]), length)
+        }
+        Some(_) => sign(rest),
+    }
+}
+
+fn sign(rest: &[u8]) -> (Token<'_>, usize) {
+    for (spelling, token) in SIGNS {
+        if rest.starts_with(spelling) {
+            return (token, spelling.len());
+        }
+    }
+    (Token::Knot, 0)
+}
+
+/// A reserved word or a name.
+fn word(bytes: &[u8]) -> Token<'_> {
+    match bytes {
+        b"input" => Token::Input,
+        b"internal" => Token::Internal,
+        b"define" => Token::Define,
+        b"monitor" => Token::Monitor,
+        _ if bytes.len() > limit::NAME_BYTES => Token::Knot,
+        _ => Token::Name(bytes),
+    }
+}
+
+fn number(digits: &[u8]) -> Token<'_> {
+    let mut value: u64 = 0;
+    for digit in digits {
+        let next = value
+            .checked_mul(10)
+            .and_then(|v| v.checked_add(u64::from(digit - b'0')));
+        match next {
+            Some(next) => value = next,
+            None => return Token::Knot,
+        }
+    }
+    Token::Number(value)
+}
+
+/// How many bytes at the front of `bytes` satisfy `belongs`.
+fn run_length(bytes: &[u8], belongs: impl Fn(u8) -> bool) -> usize {
+    bytes.iter().take_while(|&&b| belongs(b)).count()
+}
+
+fn is_blank(byte: u8) -> bool {
+    matches!(byte, b' ' | b'\t' | b'\n' | b'\r')
+}
+
+fn is_name_byte(byte: u8) -> bool {
+    byte.is_ascii_alphanumeric() || byte == b'_'
+}
+
+#[cfg(test)]
+mod tests {
+    use super::*;
+
+    fn tokens(text: &str) -> Vec<(Token<'_>, usize)> {
+        let mut lexer = Lexer::new(text.as_bytes());
+        let mut found = Vec::new();
+        loop {
+            let (token, at) = lexer.advance();
+            found.push((token, at));
+            if matches!(token, Token::End | Token::Knot) {
+                return found;
+            }
+        }
+    }
+
+    #[test]
+    fn the_longest_sign_is_taken() {
+        assert_eq!(
+            tokens("=== ||->\t<-"),
+            [
+                (Token::Equals, 0),
+                (Token::Assign, 2),
+                (Token::Or, 4),
+                (Token::Produces, 6),
+                (Token::Takes, 9),
+                (Token::End, 11)
+            ]
+        );
+    }
+
+    #[test]
+    fn names_and_numbers_take_all_they_can() {
+        assert_eq!(
+            tokens("12ab_3 inputs Input input"),
+            [
+                (Token::Number(12), 0),
+                (Token::Name(b"ab_3"), 2),
+                (Token::Name(b"inputs"), 7),
+                (Token::Name(b"Input"), 14),
+                (Token::Input, 20),
+                (Token::End, 25)
+            ]
+        );
+    }
+
+    #[test]
+    fn numbers_up_to_two_to_the_64() {
+        let zeros = "0".repeat(100);
+        assert_eq!(tokens("18446744073709551615")[0].0, Token::Number(u64::MAX));
+        assert_eq!(tokens("18446744073709551616")[0].0, Token::Knot);
+        assert_eq!(tokens(&format!("{zeros}7"))[0].0, Token::Number(7));
+        assert_eq!(tokens("99999999999999999999999")[0].0, Token::Knot);
+    }
+
+    #[test]
+    fn every_byte_that_begins_no_token_is_a_knot() {
+        let begins =
+            b"abcdefghijklmnopqrstuvwxyzABCDEFGHIJKLMNOPQRSTUVWXYZ_0123456789;,@*&!()[]{}:=";
+        for byte in 0..=255u8 {
+            let text = [byte];
+            let (token, at) = Lexer::new(&text).advance();
+            let blank = b" \t\r\n".contains(&byte);
+            assert_eq!(token == Token::End, blank, "byte {byte}");
+            assert_eq!(
+                token == Token::Knot,
+                !blank && !begins.contains(&byte),
+                "byte {byte}"
+            );
+            assert_eq!(at, usize::from(blank));
+        }
+    }
+
+    #[test]
+    fn lone_halves_of_signs_are_knots() {
+        for text in ["|", "-", "<", "| |", "- >", "< -"] {
+            assert_eq!(tokens(text), [(Token::Knot, 0)]);
+        }
+        assert_eq!(tokens("|||"), [(Token::Or, 0), (Token::Knot, 2)]);
+    }
+
+    #[test]
+    fn names_up_to_16_bytes() {
+        assert_eq!(
+            tokens("abcdefghijklmnop")[0].0,
+            Token::Name(b"abcdefghijklmnop")
+        );
+        assert_eq!(tokens("abcdefghijklmnopq")[0].0, Token::Knot);
+    }
+}
