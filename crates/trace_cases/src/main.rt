@@ -58,12 +58,15 @@ fn into_three(records: &[u8]) {
     show::words(&words);
 }
 
-fn main() {
+fn empty_traces() {
     print(b"nothing\n");
     show::read(trace::read_record(b"", 0));
     show::read(trace::read_at(b"", 0, 0));
     show::read(trace::read_at(b"", 1, 0));
     into_three(b"");
+}
+
+fn single_words() {
     print(b"one word\n");
     there_and_back(0, 0x1234);
     print(b"all eight bytes\n");
@@ -73,12 +76,18 @@ fn main() {
     there_and_back(0x1234, 0x1234);
     print(b"one byte changed\n");
     there_and_back(0x1122_3344_5566_7788, 0x1122_3344_0066_7788);
+}
+
+fn idle_bytes() {
     print(b"idle bytes\n");
     show::read(trace::read_record(b"\x01\x00", 0));
     show::read(trace::read_record(b"\x81\x05\x00", 0));
     show::read(trace::read_record(b"\x80\x11", 0x1122_3344_5566_7788));
     print(b"torn before idle\n");
     show::read(trace::read_record(b"\x03\x00", 0));
+}
+
+fn parts() {
     print(b"every cut\n");
     cuts(b"\xff\x88\x77\x66\x55\x44\x33\x22\x11");
     print(b"every bin\n");
@@ -86,6 +95,9 @@ fn main() {
     bins(&mut buffer);
     print(b"every position\n");
     positions(b"\x01\x05\x00\x01\x05\x02");
+}
+
+fn lists() {
     print(b"into three words\n");
     into_three(b"\x01\x05\x00\x03\x06\x07");
     into_three(b"\x01\x05\x00\x00\x00");
@@ -93,4 +105,12 @@ fn main() {
     into_three(b"\x01\x05\x00\x03\x06");
     print(b"10000 words\n");
     random::there_and_back();
+}
+
+fn main() {
+    empty_traces();
+    single_words();
+    idle_bytes();
+    parts();
+    lists();
 }
