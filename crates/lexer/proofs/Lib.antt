@@ -1,0 +1,20 @@
+-- The lexer's lemmas: the first group serves its functions, the second holds the laws of tokens, which Laws lists.
+pub mod Bools
+pub mod Every
+pub mod Runs
+pub mod ByteClass
+pub mod Spelling
+pub mod Names
+pub mod Numbers
+pub mod Signs
+pub mod First
+pub mod WithoutBytes
+pub mod View
+pub mod Sized
+pub mod Order
+pub mod Moved
+pub mod Parted
+pub mod Boundary
+pub mod Longest
+pub mod Laws
+pub mod Examples

@@ -1,0 +1,2 @@
+-- The lemmas of the benchmark's function.
+pub mod Sums

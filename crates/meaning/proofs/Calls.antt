@@ -1,0 +1,291 @@
+-- Calls: each reply is 01's, no other list of replies is, and the machine of active positions gives the same.
+use mathlib.Core.List.{List, [], _∷_, _++_, append-nil, append-assoc}
+use mathlib.Core.Bool.{Bool, true, false, not, cond, _||_}
+use mathlib.Core.Path.{_≡_, refl, sym, ap, ap₂, _∙_, subst}
+use mathlib.Core.Logic.{_↔_}
+use Prim.Native.Nat.{ℕ, zero, suc, _+_, _^_, _≤_, _<_}
+use native.Mathlib.Omega.{arith}
+use lib.Dec.{T, T-not, not-T, leb→le, le→leb, nleb→lt}
+use native.Mathlib.Decide.{decLt, ℕ-discrete}
+use lib.ListN.{length, take, getD}
+use lib.Seq.{take-suc, take-all}
+use Rattle.meaning.specs.Lists.{any, count, only}
+use Rattle.meaning.specs.Expression.{Exp}
+use Rattle.meaning.specs.Shape.{AllRead}
+use Rattle.meaning.specs.Fit.{Verdict, ok as clean, bad as broken, History, start, onward, history, judged}
+use Rattle.meaning.specs.Positions.{opened, answer, moved}
+use Rattle.meaning.specs.Calls.{Reply, ok, bad, refused, replyOf, mostTicks, isFull, isStray, State, opening, reply, after, repliesFrom, replies, machineReplies, isOk, isBad, isRefused, judgedWords, Rightly, AllRightly}
+use Rattle.meaning.proofs.ListLaws.{carry-append, clash}
+use Rattle.meaning.proofs.Watch.{AllAccepted, Tracks, opened-tracks, same-verdict, same-move}
+use Rattle.meaning.proofs.Accept.{accept-all}
+
+-- ---- one reply ----
+
+-- stopped, full, stray, and the reply if it is none of them
+abbrev chosen : (a b c : Bool) → Reply → Reply
+chosen a b c r = cond a (refused 16) (cond b (refused 17) (cond c (refused 15) r))
+
+chosen-16 : (a b c : Bool) (v : Verdict) → chosen a b c (replyOf v) ≡ refused 16 ↔ T a
+chosen-16 true b c v = (λ p. tt, λ t. refl)
+chosen-16 false true c v = (λ p. clash (cc), λ t. absurd t)
+chosen-16 false false true v = (λ p. clash (cc), λ t. absurd t)
+chosen-16 false false false clean = (λ p. clash (cc), λ t. absurd t)
+chosen-16 false false false (broken m) = (λ p. clash (cc), λ t. absurd t)
+
+chosen-17 : (a b c : Bool) (v : Verdict) → chosen a b c (replyOf v) ≡ refused 17 ↔ (T (not a) × T b)
+chosen-17 true b c v = (λ p. clash (cc), λ (t, u). absurd t)
+chosen-17 false true c v = (λ p. (tt, tt), λ t. refl)
+chosen-17 false false true v = (λ p. clash (cc), λ (t, u). absurd u)
+chosen-17 false false false clean = (λ p. clash (cc), λ (t, u). absurd u)
+chosen-17 false false false (broken m) = (λ p. clash (cc), λ (t, u). absurd u)
+
+chosen-15 : (a b c : Bool) (v : Verdict) → chosen a b c (replyOf v) ≡ refused 15 ↔ (T (not a) × T (not b) × T c)
+chosen-15 true b c v = (λ p. clash (cc), λ (t, u, x). absurd t)
+chosen-15 false true c v = (λ p. clash (cc), λ (t, u, x). absurd u)
+chosen-15 false false true v = (λ p. (tt, tt, tt), λ t. refl)
+chosen-15 false false false clean = (λ p. clash (cc), λ (t, u, x). absurd x)
+chosen-15 false false false (broken m) = (λ p. clash (cc), λ (t, u, x). absurd x)
+
+chosen-else : (a b c : Bool) (r : Reply) → T (not a) → T (not b) → T (not c) → chosen a b c r ≡ r
+chosen-else true b c r t u x = absurd t
+chosen-else false true c r t u x = absurd u
+chosen-else false false true r t u x = absurd x
+chosen-else false false false r t u x = refl
+
+chosen-ok : (a b c : Bool) (v : Verdict) → chosen a b c (replyOf v) ≡ ok → T (not a) × T (not b) × (v ≡ clean)
+chosen-ok true b c v p = clash (cc)
+chosen-ok false true c v p = clash (cc)
+chosen-ok false false true v p = clash (cc)
+chosen-ok false false false clean p = (tt, tt, refl)
+chosen-ok false false false (broken m) p = clash (cc)
+
+-- ---- one call more at the end of the list ----
+
+any-snoc : (rs : List Reply) (r : Reply) → any isBad (rs ++ r ∷ []) ≡ any isBad rs || isBad r
+any-snoc [] ok = refl
+any-snoc [] (bad m) = refl
+any-snoc [] (refused n) = refl
+any-snoc (ok ∷ rs) r = any-snoc rs r
+any-snoc (bad m ∷ rs) r = refl
+any-snoc (refused n ∷ rs) r = any-snoc rs r
+
+count-snoc : (rs : List Reply) (r : Reply) → count isOk (rs ++ r ∷ []) ≡ count isOk rs + cond (isOk r) 1 0
+count-snoc [] r = omega arith
+count-snoc (x ∷ rs) r = omega (arith, count-snoc rs r)
+
+words-snoc : (ws : List ℕ) (rs : List Reply) (w : ℕ) (r : Reply) → length ws ≡ length rs
+    → judgedWords (ws ++ w ∷ []) (rs ++ r ∷ []) ≡ judgedWords ws rs ++ only (not (isRefused r)) (w ∷ [])
+words-snoc [] [] w r p = append-nil (only (not (isRefused r)) (w ∷ []))
+words-snoc [] (x ∷ rs) w r p = absurd (omega arith)
+words-snoc (v ∷ ws) [] w r p = absurd (omega arith)
+words-snoc (v ∷ ws) (x ∷ rs) w r p =
+    ap (λ l. only (not (isRefused x)) (v ∷ []) ++ l) (words-snoc ws rs w r (omega arith))
+    ∙ sym (append-assoc (only (not (isRefused x)) (v ∷ [])) (judgedWords ws rs) (only (not (isRefused r)) (w ∷ [])))
+
+length-snoc : {A B : Type 0} (xs : List A) (ys : List B) (x : A) (y : B) → length xs ≡ length ys → length (xs ++ x ∷ []) ≡ length (ys ++ y ∷ [])
+length-snoc [] [] x y p = refl
+length-snoc [] (b ∷ ys) x y p = absurd (omega arith)
+length-snoc (a ∷ xs) [] x y p = absurd (omega arith)
+length-snoc (a ∷ xs) (b ∷ ys) x y p = ap suc (length-snoc xs ys x y (omega arith))
+
+or-false : (b : Bool) → b || false ≡ b
+or-false true = refl
+or-false false = refl
+
+or-true : (b : Bool) → b || true ≡ true
+or-true true = refl
+or-true false = refl
+
+-- ---- the state holds what the sentence asks of the earlier calls ----
+
+module _ (ms : List Exp) (initial : List ℕ) (wires : ℕ) where
+  -- the state after calls with the words ws and the replies rs
+  record Kept (ws : List ℕ) (rs : List Reply) (s : State History) : Type 0 where
+    pub stopped-is : s .stopped ≡ any isBad rs
+    pub oks-is : s .oks ≡ count isOk rs
+    pub oks-most : s .oks ≤ 1000000
+    pub inner-is : T (not (any isBad rs)) → s .inner ≡ history ms initial (judgedWords ws rs)
+    pub as-long : length ws ≡ length rs
+
+  module _ (ws : List ℕ) (rs : List Reply) (s : State History) (k : Kept ws rs s) (w : ℕ) where
+    not-stopped : T (not (any isBad rs)) → T (not (s .stopped))
+    not-stopped t = subst (λ b. T (not b)) (sym (k .stopped-is)) t
+
+    stopped-not : T (not (s .stopped)) → T (not (any isBad rs))
+    stopped-not t = subst (λ b. T (not b)) (k .stopped-is) t
+
+    not-full : (count isOk rs ≡ 1000000 → ⊥) → T (not (isFull (s .oks)))
+    not-full h = not-T (isFull (s .oks)) (λ t. h (omega (arith, k .oks-is, k .oks-most, leb→le mostTicks (s .oks) t)))
+
+    rightly : Rightly ms initial wires ws rs w (reply (judged ms) wires s w)
+    unfolding reply
+    rightly =
+        record {
+          stopped = (λ p. subst T (k .stopped-is) (chosen-16 a b c v .0 p), λ t. chosen-16 a b c v .1 (subst T (sym (k .stopped-is)) t));
+          full = (
+            λ p. let (t, u) = chosen-17 a b c v .0 p in (stopped-not t, omega (arith, k .oks-is, k .oks-most, leb→le mostTicks (s .oks) u)),
+            λ (t, e). chosen-17 a b c v .1 (not-stopped t, le→leb mostTicks (s .oks) (omega (arith, k .oks-is))),
+          );
+          stray = (
+            λ p. let (t, u, x) = chosen-15 a b c v .0 p in
+                (stopped-not t, (λ e. omega (arith, k .oks-is, nleb→lt mostTicks (s .oks) u)), leb→le (2 ^ wires) w x),
+            λ (t, h, le). chosen-15 a b c v .1 (not-stopped t, not-full h, le→leb (2 ^ wires) w le),
+          );
+          other = λ t h lt.
+              chosen-else a b c (replyOf v) (not-stopped t) (not-full h) (not-T c (λ x. omega (arith, leb→le (2 ^ wires) w x)))
+              ∙ ap (λ h. replyOf (judged ms h w)) (k .inner-is t);
+        }
+      where
+        a : Bool
+        a = s .stopped
+
+        b : Bool
+        b = isFull (s .oks)
+
+        c : Bool
+        c = isStray wires w
+
+        v : Verdict
+        v = judged ms (s .inner) w
+
+    keep : (r : Reply) → reply (judged ms) wires s w ≡ r → Kept (ws ++ w ∷ []) (rs ++ r ∷ []) (after (onward ms) s w r)
+    unfolding reply
+    keep ok p =
+        let (t, u, e) = chosen-ok (s .stopped) (isFull (s .oks)) (isStray wires w) (judged ms (s .inner) w) p in
+        record {
+          stopped-is = k .stopped-is ∙ sym (any-snoc rs ok ∙ or-false (any isBad rs));
+          oks-is = omega (arith, k .oks-is, count-snoc rs ok);
+          oks-most = nleb→lt mostTicks (s .oks) u;
+          inner-is = λ x.
+              ap (λ h. onward ms h w) (k .inner-is (stopped-not t))
+              ∙ sym (carry-append (onward ms) (start initial) (judgedWords ws rs) (w ∷ []))
+              ∙ ap (history ms initial) (sym (words-snoc ws rs w ok (k .as-long)));
+          as-long = length-snoc ws rs w ok (k .as-long);
+        }
+    keep (bad m) p =
+        record {
+          stopped-is = sym (any-snoc rs (bad m) ∙ or-true (any isBad rs));
+          oks-is = omega (arith, k .oks-is, count-snoc rs (bad m));
+          oks-most = k .oks-most;
+          inner-is = λ x. absurd (T-not (any isBad (rs ++ bad m ∷ [])) x (subst T (sym (any-snoc rs (bad m) ∙ or-true (any isBad rs))) tt));
+          as-long = length-snoc ws rs w (bad m) (k .as-long);
+        }
+    keep (refused n) p =
+        record {
+          stopped-is = k .stopped-is ∙ same;
+          oks-is = omega (arith, k .oks-is, count-snoc rs (refused n));
+          oks-most = k .oks-most;
+          inner-is = λ x.
+              k .inner-is (subst (λ b. T (not b)) (sym same) x)
+              ∙ ap (history ms initial) (sym (words-snoc ws rs w (refused n) (k .as-long) ∙ append-nil (judgedWords ws rs)));
+          as-long = length-snoc ws rs w (refused n) (k .as-long);
+        }
+      where
+        same : any isBad rs ≡ any isBad (rs ++ refused n ∷ [])
+        same = sym (any-snoc rs (refused n) ∙ or-false (any isBad rs))
+
+  -- the replies to more calls
+  rightly-from : (vs : List ℕ) (s : State History) (ws : List ℕ) (rs : List Reply) → Kept ws rs s → (n : ℕ) → n < length vs
+      → Rightly ms initial wires (ws ++ take n vs) (rs ++ take n (repliesFrom (judged ms) (onward ms) wires s vs)) (getD vs n 0) (getD (repliesFrom (judged ms) (onward ms) wires s vs) n ok)
+  unfolding repliesFrom
+  rightly-from [] s ws rs k n lt = absurd (omega arith)
+  rightly-from (v ∷ vs) s ws rs k zero lt = rw (append-nil ws, append-nil rs) (rightly ws rs s k v)
+  rightly-from (v ∷ vs) s ws rs k (suc n) lt =
+      rw (← append-assoc ws (v ∷ []) (take n vs), ← append-assoc rs (r ∷ []) (take n (repliesFrom (judged ms) (onward ms) wires t vs)))
+      (rightly-from vs t (ws ++ v ∷ []) (rs ++ r ∷ []) (keep ws rs s k v r refl) n (omega arith))
+    where
+      r : Reply
+      r = reply (judged ms) wires s v
+
+      t : State History
+      t = after (onward ms) s v r
+
+  -- Every call is answered as 01 says.
+  pub replies-rightly : (ws : List ℕ) → AllRightly ms initial wires ws (replies ms initial wires ws)
+  replies-rightly ws = rightly-from ws (opening (start initial)) [] []
+      (record { stopped-is = refl; oks-is = refl; oks-most = omega arith; inner-is = λ t. refl; as-long = refl })
+
+-- ---- and in no other way ----
+
+module _ (ms : List Exp) (initial : List ℕ) (wires : ℕ) where
+  one-reply : (ws : List ℕ) (rs : List Reply) (w : ℕ) (r q : Reply) → Rightly ms initial wires ws rs w r → Rightly ms initial wires ws rs w q → r ≡ q
+  one-reply ws rs w r q x y = by (any isBad rs) refl
+    where
+      open-call : T (not (any isBad rs)) → (count isOk rs ≡ 1000000 → ⊥) → r ≡ q
+      open-call t h = elim (decLt w (2 ^ wires)) [
+        | yes lt ↦ x .other t h lt ∙ sym (y .other t h lt)
+        | no ge ↦ x .stray .1 (t, h, (omega arith)) ∙ sym (y .stray .1 (t, h, (omega arith)))
+      ]
+
+      by : (b : Bool) → any isBad rs ≡ b → r ≡ q
+      by true p = let t = subst T (sym p) tt in x .stopped .1 t ∙ sym (y .stopped .1 t)
+      by false p =
+          let t : T (not (any isBad rs)) = subst (λ b. T (not b)) (sym p) tt in
+          elim (ℕ-discrete (count isOk rs) 1000000) [
+            | yes e ↦ x .full .1 (t, e) ∙ sym (y .full .1 (t, e))
+            | no h ↦ open-call t h
+          ]
+
+  one-take : (ws : List ℕ) (rs qs : List Reply) → length rs ≡ length ws → length qs ≡ length ws
+      → AllRightly ms initial wires ws rs → AllRightly ms initial wires ws qs → (n : ℕ) → n ≤ length ws → take n rs ≡ take n qs
+  one-take ws rs qs a b x y zero le = refl
+  one-take ws rs qs a b x y (suc n) le =
+      let same : take n rs ≡ take n qs = one-take ws rs qs a b x y n (omega arith) in
+      take-suc rs n ok (omega arith)
+      ∙ ap₂ (λ l r. l ++ r ∷ []) same
+      (one-reply (take n ws) (take n qs) (getD ws n 0) _ _ (subst (λ l. Rightly ms initial wires (take n ws) l (getD ws n 0) (getD rs n ok)) same (x n (omega arith))) (y n (omega arith)))
+      ∙ sym (take-suc qs n ok (omega arith))
+
+  pub length-replies : (s : State History) (ws : List ℕ) → length (repliesFrom (judged ms) (onward ms) wires s ws) ≡ length ws
+  unfolding repliesFrom
+  length-replies s [] = refl
+  length-replies s (w ∷ ws) = ap suc (length-replies (after (onward ms) s w (reply (judged ms) wires s w)) ws)
+
+  -- "Text and calls alone fix every answer, first call to last."
+  pub replies-only : (ws : List ℕ) (rs : List Reply) → length rs ≡ length ws → AllRightly ms initial wires ws rs → rs ≡ replies ms initial wires ws
+  replies-only ws rs p x =
+      let q : length (replies ms initial wires ws) ≡ length ws = length-replies (opening (start initial)) ws in
+      sym (take-all (length ws) rs (omega arith))
+      ∙ one-take ws rs (replies ms initial wires ws) p q x (replies-rightly ms initial wires ws) (length ws) (omega arith)
+      ∙ take-all (length ws) (replies ms initial wires ws) (omega arith)
+
+-- ---- two that judge alike reply alike ----
+
+module _ {S R : Type 0} (judge : S → ℕ → Verdict) (move : S → ℕ → S) (judge′ : R → ℕ → Verdict) (move′ : R → ℕ → R) (Like : S → R → Type 0)
+    (alike : (s : S) (r : R) → Like s r → (w : ℕ) → judge s w ≡ judge′ r w)
+    (onwards : (s : S) (r : R) → Like s r → (w : ℕ) → judge′ r w ≡ clean → Like (move s w) (move′ r w)) (wires : ℕ) where
+  pub same-replies : (ws : List ℕ) (s : S) (r : R) (n : ℕ) (b : Bool) → Like s r
+      → repliesFrom judge move wires (record { inner = s; oks = n; stopped = b }) ws ≡ repliesFrom judge′ move′ wires (record { inner = r; oks = n; stopped = b }) ws
+  unfolding repliesFrom reply
+  same-replies [] s r n b l = refl
+  same-replies (w ∷ ws) s r n b l =
+      ap (λ x. x ∷ repliesFrom judge move wires (after move here w x) ws) same ∙ ap (λ l. there ∷ l) (rest (same-replies ws) there refl)
+    where
+      here : State S
+      here = record { inner = s; oks = n; stopped = b }
+
+      other : State R
+      other = record { inner = r; oks = n; stopped = b }
+
+      there : Reply
+      there = reply judge′ wires other w
+
+      same : reply judge wires here w ≡ there
+      same = ap (λ v. chosen b (isFull n) (isStray wires w) (replyOf v)) (alike s r l w)
+
+      rest : ((s : S) (r : R) (n : ℕ) (b : Bool) → Like s r
+          → repliesFrom judge move wires (record { inner = s; oks = n; stopped = b }) ws ≡ repliesFrom judge′ move′ wires (record { inner = r; oks = n; stopped = b }) ws)
+          → (x : Reply) → there ≡ x → repliesFrom judge move wires (after move here w x) ws ≡ repliesFrom judge′ move′ wires (after move′ other w x) ws
+      rest ih ok p = ih (move s w) (move′ r w) (suc n) b (onwards s r l w (chosen-ok b (isFull n) (isStray wires w) (judge′ r w) p .2))
+      rest ih (bad m) p = ih s r n true l
+      rest ih (refused k) p = ih s r n b l
+
+-- The machine over monitors that were not turned away replies to each list of calls as their meaning does.
+pub calls-right : (ms : List Exp) → AllRead ms → (initial : List ℕ) (wires : ℕ) (ws : List ℕ) → machineReplies ms initial wires ws ≡ replies ms initial wires ws
+calls-right ms read initial wires ws =
+    same-replies (answer ms) (moved ms) (judged ms) (onward ms) (λ v h. Tracks ms h v)
+    (λ v h t w. same-verdict ms accepted h v t w) (λ v h t w p. same-move ms accepted h v t w p) wires
+    ws (opened ms initial) (start initial) 0 false (opened-tracks ms initial)
+  where
+    accepted : AllAccepted ms
+    accepted = accept-all ms read

@@ -1,0 +1,38 @@
+-- The shared examples hold: each sheet is what the definitions compute. Assumes nothing.
+use mathlib.Core.Path.{_≡_, refl}
+use mathlib.Core.List.{List, [], _∷_, _++_}
+use Prim.Native.Nat.{ℕ}
+use Rattle.lexer.specs.Bytes.{isWhite, isDigit, isLetter, run, same, lookup}
+use Rattle.lexer.specs.Tokens.{nameToken, valueFrom, numberToken, signToken, firstToken, nextToken, tokenAt, tokensFrom, tokensAt}
+use Rattle.meaning.specs.Expression.{letters, size, rows, renumbered}
+use Rattle.meaning.specs.Fit.{meets, merge, rounds, runs, writeMet, onward, verdict}
+use Rattle.meaning.specs.Shape.{nullable, first, last, follow, threads, agree, together, unsatisfiable, parts, nullables, openEnds, ambiguous, shape, meetsWires}
+use Rattle.meaning.specs.Reading.{choose, onName, onNumber, ifName, ifNumber, unless, byKind, known, newName, notHere, atToken, declare, storeTests, literalName, behindOperand, behindLiteral, step, readOn, read}
+use Rattle.meaning.specs.Answers.{value}
+use Rattle.meaning.specs.Opening.{Opened, opened, tooLong, misshapen, openProgram, openText}
+use Rattle.meaning.specs.Calls.{reply}
+use Rattle.trace.specs.Record.{digit, number, count, picked, recordOf, differs, changes, written, newByte, merged, idle, readRecord}
+use Rattle.trace.specs.Whole.{writeAll, writeTrace}
+use Rattle.meaning.specs.Sheet.{sheet, tickLines, cleanLine, countsLine, refusalLine, line, decimal, digitsIn, hexadecimal}
+use Rattle.meaning.specs.Examples.{Example, sample, examples}
+
+abbrev Holds : Example → Type 0
+Holds x = sheet (x .text) (writeTrace (x .words)) ≡ x .sheet
+
+abbrev AllHold : List Example → Type 0
+AllHold [] = Unit {0}
+AllHold (x ∷ xs) = Holds x × AllHold xs
+
+pub examples-hold : AllHold examples
+unfolding choose onName onNumber ifName ifNumber unless byKind known newName notHere atToken isWhite isDigit isLetter run same lookup nameToken valueFrom numberToken signToken firstToken nextToken tokenAt tokensFrom tokensAt letters size rows renumbered meets merge rounds runs writeMet onward verdict nullable first last follow threads agree together unsatisfiable parts nullables openEnds ambiguous shape meetsWires declare storeTests literalName behindOperand behindLiteral step readOn read opened tooLong misshapen openProgram openText reply digit number count picked recordOf differs changes written newByte merged idle readRecord writeAll writeTrace sheet tickLines cleanLine countsLine refusalLine line decimal digitsIn hexadecimal
+examples-hold = ((refl, (refl, (refl, (refl, (refl, (refl, (refl, (refl, (refl, (refl, (refl, (refl, (refl, (refl, (refl, (refl, tt)))))))))))))))))
+
+-- the sample's trace is the one that 01 prints
+pub sample-trace : writeTrace (sample .words) ≡ 1 ∷ 1 ∷ 1 ∷ 0 ∷ 0 ∷ []
+unfolding digit number count picked recordOf differs changes written writeAll writeTrace
+sample-trace = refl
+
+-- "the empty list of words fits each monitor; its sheet ends `clean 0`"
+pub nothing-yet : (text : List ℕ) (o : Opened) → openText text ≡ value o → sheet text [] ≡ countsLine o ++ cleanLine 0
+unfolding sheet tickLines
+nothing-yet text o e = rw e

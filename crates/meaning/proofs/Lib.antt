@@ -1,0 +1,22 @@
+-- What follows from the definitions. Openings has the headline: on every accepted text the machine of active positions replies as the meaning does.
+pub mod ListLaws
+pub mod Step
+pub mod OneWay
+pub mod Active
+pub mod Monitor
+pub mod Sets
+pub mod Watch
+pub mod Bits
+pub mod Numbering
+pub mod Rules
+pub mod Accept
+pub mod Shaped
+pub mod RowCount
+pub mod Prefix
+pub mod Walk
+pub mod Calls
+pub mod Steps
+pub mod Blame
+pub mod Sizes
+pub mod Openings
+pub mod Examples

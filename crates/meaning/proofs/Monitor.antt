@@ -1,0 +1,195 @@
+-- One monitor: the machine goes on exactly where the ticks fit, and its positions are the letters met.
+use mathlib.Core.List.{List, [], _∷_, _++_}
+use mathlib.Core.Bool.{Bool, true, false, not, cond}
+use mathlib.Core.Option.{none, some, Option·none-ne-some, Option·some-injective}
+use mathlib.Core.Logic.{inl, inr}
+use mathlib.Core.Path.{_≡_, refl, sym, ap, ap₂, _∙_, subst, fun-ext}
+use Prim.Native.Nat.{ℕ}
+use lib.Dec.{T, eqb}
+use lib.ListN.{length, getD}
+use Rattle.meaning.specs.Lists.{null, member, _∈_}
+use Rattle.meaning.specs.Expression.{Literal, wire, wire-store, store, Letter, Exp, letter, seq, alt, star, pipe, letters}
+use Rattle.meaning.specs.Shape.{SideBySide, meetsWires, wireHolds, first, follow, threads, together}
+use Rattle.meaning.specs.Fit.{Tick, meets, holds, Run, Rest, pastTheEnd, anything, nothing, merge, both, runs, monitor, fits, met}
+use Rattle.meaning.specs.Positions.{Way, stuck, joined, has, leave, Positions, at-start, on, goAll, go}
+use Rattle.meaning.proofs.ListLaws.{here, there, no-∈, ∈-left, ∈-right, each-∈, ∈-each, any-from, any-to, all-at, all-from}
+use Rattle.meaning.proofs.Step.{Solid, ended, Good, afters, Placed, step, steps, good-nothing}
+use Rattle.meaning.proofs.OneWay.{Same, Excludes, Exclusive, Numbered, Closed, Threads, same-runs, one-way}
+use Rattle.meaning.proofs.Bits.{meets-together}
+use Rattle.meaning.proofs.Active.{Exact, way, lead-both, ask-way, leave-way, after, somewhere, placed, then, then-some, positionsAfter, ways, runs-if, goes-if, positions-if, one-run}
+
+-- rule 12: no word meets two letters side by side
+abbrev pub Unambiguous : Exp → Type 0
+Unambiguous m = (x y : Letter) → SideBySide m x y → T (together x y) → x .number ≡ y .number
+
+-- A monitor that was accepted: the rules 10, 11 and 12, and its letters numbered apart.
+pub record Accepted (m : Exp) : Type 0 where
+  pub solid : Solid (star m)
+  pub closed : Closed m
+  pub unambiguous : Unambiguous m
+  pub numbered : Numbered m
+
+-- ---- one monitor ----
+
+meets-wires : (x : Letter) (t : Tick) → T (meets x t) → T (meetsWires x (t .word))
+unfolding meets meetsWires
+meets-wires x t m = all-from (wireHolds (t .word)) (x .literals) (λ l i. one l (all-at (holds t) i m))
+  where
+    one : (l : Literal) → T (holds t l) → T (wireHolds (t .word) l)
+    one (wire lo width v) h = h
+    one (wire-store lo width s) h = tt
+    one (store s v) h = tt
+
+one-met : (m : Exp) → Unambiguous m → (t : Tick) (x y : Letter) → SideBySide m x y → T (meets x t) → T (meets y t) → x .number ≡ y .number
+one-met m un t x y s p q = un x y s (meets-together x y (t .word) (meets-wires x t p) (meets-wires y t q))
+
+threads-exclusive : (t : Tick) (e : Exp) → ((f : Exp) → f ∈ threads e → Exclusive t (first f)) → Threads t e
+unfolding threads
+threads-exclusive t (letter l) h = tt
+threads-exclusive t (seq e f) h = (threads-exclusive t e (λ g i. h g (∈-left (threads f) i)), threads-exclusive t f (λ g i. h g (∈-right (threads e) i)))
+threads-exclusive t (alt e f) h = (threads-exclusive t e (λ g i. h g (∈-left (threads f) i)), threads-exclusive t f (λ g i. h g (∈-right (threads e) i)))
+threads-exclusive t (star e) h = threads-exclusive t e h
+threads-exclusive t (pipe e f) h =
+    (h f (here refl), threads-exclusive t e (λ g i. h g (there (∈-left (threads f) i))), threads-exclusive t f (λ g i. h g (there (∈-right (threads e) i))))
+
+cond-both : (b : Bool) (X Y Z : List Run) → X ≡ Z → Y ≡ Z → cond b X Y ≡ Z
+cond-both true X Y Z p q = p
+cond-both false X Y Z p q = q
+
+after-ends : (n : ℕ) (e : Exp) (K : Rest) → K [] ≡ pastTheEnd → after n e K [] ≡ pastTheEnd
+unfolding after merge
+after-ends n (letter l) K k = k
+after-ends n (seq e f) K k = cond-both (has n e) _ _ _ (after-ends n e (runs f K) (ended f K k)) (after-ends n f K k)
+after-ends n (alt e f) K k = cond-both (has n e) _ _ _ (after-ends n e K k) (after-ends n f K k)
+after-ends n (star e) K k = after-ends n e (runs (star e) K) (ended (star e) K k)
+after-ends n (pipe e f) K k =
+    cond-both (has n e) _ _ _ (after-ends n e (λ us. both (K us) (runs f anything us)) (ap₂ both k (ended f anything refl))) (after-ends n f anything refl)
+
+-- what follows letter n of the monitor m
+abbrev pub following : Exp → ℕ → Rest
+following m n = after n (star m) nothing
+
+-- ---- lists ----
+
+pub not-null : {r : Run} {A : List Run} → r ∈ A → null A ≡ false
+not-null (here p) = refl
+not-null (there i) = refl
+
+pub is-null : (A : List Run) → ((r : Run) → r ∈ A → ⊥) → null A ≡ true
+is-null [] h = refl
+is-null (r ∷ A) h = absurd (h r (here refl))
+
+pub same-test : (a b : Bool) → (T a → T b) → (T b → T a) → a ≡ b
+same-test true true f g = refl
+same-test true false f g = absurd (f tt)
+same-test false true f g = absurd (g tt)
+same-test false false f g = refl
+
+pub same-member : (ns ms : List ℕ) → ((k : ℕ) → k ∈ ns → k ∈ ms) → ((k : ℕ) → k ∈ ms → k ∈ ns) → (k : ℕ) → member k ns ≡ member k ms
+same-member ns ms f g k = same-test _ _
+    (λ t. let (n, i, e) = any-to (eqb k) ns t in any-from (eqb k) (f n i) e)
+    (λ t. let (n, i, e) = any-to (eqb k) ms t in any-from (eqb k) (g n i) e)
+
+-- one tick more
+pub positions-snoc : (W : Positions → Way) (ts : List Tick) (t : Tick) (x y : Positions) → positionsAfter W x ts ≡ some y
+    → positionsAfter W x (ts ++ t ∷ []) ≡ then (W y t) (λ ns. some (on ns))
+unfolding positionsAfter
+positions-snoc W [] t x y p = ap (λ z. then (W z t) (λ ns. some (on ns))) (Option·some-injective x y p)
+positions-snoc W (u ∷ ts) t x y p =
+    let (ns, a, b) = then-some (W x u) (λ ns. positionsAfter W (on ns) ts) y p in
+    ap (λ o. then o (λ ns. positionsAfter W (on ns) (ts ++ t ∷ []))) a ∙ positions-snoc W ts t (on ns) y b
+
+module _ (m : Exp) (ac : Accepted m) where
+  is-placed : Placed (following m) (star m) nothing
+  is-placed = placed (following m) (star m) nothing (ac .numbered) (λ l i. refl)
+
+  start-good : Good (following m) (monitor m)
+  start-good = step (following m) (star m) nothing (ac .solid) is-placed refl (λ h. good-nothing (following m))
+
+  letter-good : (n : ℕ) → Good (following m) (following m n)
+  unfolding letters
+  letter-good n =
+      let (l, i, p) = somewhere (following m) n (star m) nothing is-placed in
+      rw p (steps (following m) (star m) nothing (ac .solid) is-placed refl (good-nothing (following m)) l i)
+
+  first-exclusive : (t : Tick) → Exclusive t (first m)
+  first-exclusive t x y i j = one-met m (ac .unambiguous) t x y (inl (i, j))
+
+  thread-exclusive : (t : Tick) (f : Exp) → f ∈ threads m → Exclusive t (first f)
+  thread-exclusive t f k x y i j = one-met m (ac .unambiguous) t x y (inr (inl (f, k, i, j)))
+
+  follow-exclusive : (t : Tick) (n : ℕ) → Exclusive t (follow n (star m))
+  follow-exclusive t n x y i j = one-met m (ac .unambiguous) t x y (inr (inr (n, i, j)))
+
+  no-runs : (t : Tick) (g : List Letter) → Same t nothing × Excludes t nothing g
+  no-runs t g = (λ r s i j. absurd (no-∈ i), λ r x i j u. no-∈ i)
+
+  start-same : (t : Tick) → Same t (monitor m)
+  unfolding first
+  start-same t = same-runs t (star m) nothing (ac .solid) refl (first-exclusive t) (λ h. no-runs t (first m))
+
+  letter-same : (n : ℕ) (t : Tick) → Same t (following m n)
+  unfolding letters threads
+  letter-same n t =
+      let (l, i, p) = somewhere (following m) n (star m) nothing is-placed in
+      rw p (one-way (following m) t (star m) nothing (ac .solid) (ac .numbered) (ac .closed) is-placed refl
+      (threads-exclusive t m (thread-exclusive t))
+      (follow-exclusive t) (λ n h. no-runs t (follow n (star m))) l i)
+
+  exact : Exact (monitor m) (following m)
+  exact =
+      record {
+        start-ends = ended (star m) nothing refl;
+        G-ends = λ n. after-ends n (star m) nothing refl;
+        start-good = start-good;
+        G-good = letter-good;
+        start-same = start-same;
+        G-same = letter-same;
+      }
+
+  -- the machine's step is the runs' step
+  go-ways : (x : Positions) (t : Tick) → go m x t ≡ ways (monitor m) (following m) x t
+  unfolding go goAll afters
+  go-ways at-start t = sym (ask-way (star m) nothing (ac .solid) refl t)
+  go-ways (on ns) t = all-ways ns
+    where
+      all-ways : (ns : List ℕ) → goAll (λ n. leave n (star m) stuck) ns t ≡ way (afters (following m) ns) t
+      all-ways [] = refl
+      all-ways (n ∷ ns) =
+          ap₂ joined (sym (leave-way n (star m) nothing (ac .solid) refl t)) (all-ways ns)
+          ∙ sym (lead-both (following m n (t ∷ [])) (afters (following m) ns (t ∷ [])))
+
+  same-machine : go m ≡ ways (monitor m) (following m)
+  same-machine = fun-ext (λ x. fun-ext (go-ways x))
+
+  -- where the machine goes on the ticks fit
+  pub fits-yes : (ts : List Tick) (y : Positions) → positionsAfter (go m) at-start ts ≡ some y → fits m ts ≡ true
+  fits-yes ts y p =
+      let (r, i) = runs-if (monitor m) (following m) exact ts at-start y (subst (λ W. positionsAfter W at-start ts ≡ some y) same-machine p) in
+      ap not (not-null i)
+
+  -- where it does not they do not
+  pub fits-no : (ts : List Tick) → positionsAfter (go m) at-start ts ≡ none → fits m ts ≡ false
+  fits-no ts p = ap not (is-null (monitor m ts) (λ r i.
+      let (y, q) = goes-if (monitor m) (following m) exact ts at-start r i in
+      Option·none-ne-some y (sym p ∙ ap (λ W. positionsAfter W at-start ts) same-machine ∙ q)))
+
+  -- its positions are the letters met at the last tick
+  pub positions-met : (ts : List Tick) (t : Tick) (ns : List ℕ) → positionsAfter (go m) at-start (ts ++ t ∷ []) ≡ some (on ns)
+      → (k : ℕ) → member k (met m ts t) ≡ member k ns
+  positions-met ts t ns p = same-member (met m ts t) ns
+      (λ k i. let (r, j, l) = each-∈ (monitor m (ts ++ t ∷ [])) (λ r. getD r (length ts) []) i in subst (λ z. k ∈ z) (all-same r j) l)
+      (λ k i. let (r, j) = runs-if (monitor m) (following m) exact (ts ++ t ∷ []) at-start (on ns) (sym eq ∙ p) in
+      ∈-each (λ r. getD r (length ts) []) j (subst (λ z. k ∈ z) (sym (all-same r j)) i))
+    where
+      eq : positionsAfter (go m) at-start (ts ++ t ∷ []) ≡ positionsAfter (ways (monitor m) (following m)) at-start (ts ++ t ∷ [])
+      eq = ap (λ W. positionsAfter W at-start (ts ++ t ∷ [])) same-machine
+
+      all-same : (r : Run) → r ∈ monitor m (ts ++ t ∷ []) → getD r (length ts) [] ≡ ns
+      all-same r j =
+          let q : some (on (getD r (length ts) [])) ≡ some (on ns) = sym (positions-if (monitor m) (following m) exact ts t at-start r j) ∙ sym eq ∙ p in
+          cc
+
+  -- all branches that fit have the same run
+  pub one-run-only : (ts : List Tick) (r s : Run) → r ∈ monitor m ts → s ∈ monitor m ts → r ≡ s
+  one-run-only ts r s i j = one-run (monitor m) (following m) exact ts at-start r s i j

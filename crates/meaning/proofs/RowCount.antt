@@ -1,0 +1,51 @@
+-- Accepted monitors of at most 256 letters have fewer than 1,024 rows: no star is directly the body of a star.
+use mathlib.Core.List.{List, [], _∷_, map}
+use mathlib.Core.Bool.{not}
+use mathlib.Core.Path.{_≡_, refl, sym, ap₂, subst}
+use Prim.Native.Nat.{ℕ, _+_, _*_, _≤_, _<_}
+use native.Mathlib.Omega.{arith}
+use lib.Dec.{T}
+use Rattle.meaning.specs.Lists.{_∈_, total}
+use Rattle.meaning.specs.Expression.{Exp, letter, seq, alt, star, pipe, size, rows, renumbered}
+use Rattle.meaning.specs.Shape.{nullable, accepted, shape}
+use Rattle.meaning.proofs.ListLaws.{here, there, map-∈}
+use Rattle.meaning.proofs.Step.{Solid}
+use Rattle.meaning.proofs.Numbering.{renumbered-size, renumbered-rows}
+use Rattle.meaning.proofs.Accept.{accept-solid}
+
+-- the second for parts that are not nullable
+bounds : (e : Exp) → Solid e → (rows e + 2 ≤ 4 * size e) × (T (not (nullable e)) → rows e + 3 ≤ 4 * size e)
+unfolding rows size nullable
+bounds (letter l) s = (omega arith, λ t. omega arith)
+bounds (seq e f) s = let (a, b) = bounds e (s .0) in let (c, d) = bounds f (s .1) in (omega arith, λ t. omega arith)
+bounds (alt e f) s = let (a, b) = bounds e (s .0) in let (c, d) = bounds f (s .1) in (omega arith, λ t. omega arith)
+bounds (star e) s = let h = bounds e (s .1) .1 (s .0) in (omega arith, λ t. absurd t)
+bounds (pipe e f) s = let (a, b) = bounds e (s .2) in let (c, d) = bounds f (s .3) in (omega arith, λ t. omega arith)
+
+-- one monitor
+pub rows-bound : (m : Exp) → shape m ≡ accepted → rows m + 3 ≤ 4 * size m
+rows-bound m p = let s = accept-solid m p in bounds m (s .1) .1 (s .0)
+
+abbrev AllShaped : List Exp → Type 0
+AllShaped ms = (m : Exp) → m ∈ ms → shape m ≡ accepted
+
+total-bound : (ms : List Exp) → AllShaped ms → total rows ms ≤ 4 * total size ms
+total-bound [] h = omega arith
+total-bound (m ∷ ms) h = omega (arith, rows-bound m (h m (here refl)), total-bound ms (λ n i. h n (there i)))
+
+-- all monitors together
+pub rows-below-1024 : (ms : List Exp) → ((m : Exp) → m ∈ ms → shape m ≡ accepted) → total size ms ≤ 256 → total rows ms < 1024
+rows-below-1024 [] h b = omega arith
+rows-below-1024 (m ∷ ms) h b = omega (arith, rows-bound m (h m (here refl)), total-bound ms (λ n i. h n (there i)))
+
+-- the same where the letters have yet to be numbered
+pub renumbered-below-1024 : (ms : List Exp) → ((m : Exp) → m ∈ ms → shape (renumbered 0 m) ≡ accepted) → total size ms ≤ 256 → total rows ms < 1024
+renumbered-below-1024 ms h b =
+    subst (λ n. n < 1024) (total-same rows (renumbered-rows 0) ms)
+    (rows-below-1024 (map (renumbered 0) ms)
+    (λ m i. let (e, j, p) = map-∈ (renumbered 0) ms i in subst (λ z. shape z ≡ accepted) p (h e j))
+    (subst (λ n. n ≤ 256) (sym (total-same size (renumbered-size 0) ms)) b))
+  where
+    total-same : (f : Exp → ℕ) → ((m : Exp) → f (renumbered 0 m) ≡ f m) → (ms : List Exp) → total f (map (renumbered 0) ms) ≡ total f ms
+    total-same f h [] = refl
+    total-same f h (m ∷ ms) = ap₂ _+_ (h m) (total-same f h ms)

@@ -1,0 +1,108 @@
+-- The replies to a list of tick calls on one watch, from its opening on.
+use mathlib.Core.List.{List, [], _∷_, _++_}
+use mathlib.Core.Bool.{Bool, true, false, not, cond}
+use mathlib.Core.Path.{_≡_}
+use mathlib.Core.Logic.{_↔_}
+use Prim.Native.Nat.{ℕ, suc, _^_, _≤_, _<_}
+use lib.Dec.{T, leb}
+use lib.ListN.{length, take, getD}
+use Rattle.meaning.specs.Lists.{any, count, only}
+use Rattle.meaning.specs.Expression.{Exp}
+use Rattle.meaning.specs.Fit.{Verdict, ok as clean, bad as broken, start, onward, history, judged}
+use Rattle.meaning.specs.Positions.{opened, answer, moved}
+
+pub data Reply : Type 0 where
+  ok : Reply
+  bad : (monitor : ℕ) → Reply
+  refused : (number : ℕ) → Reply
+
+abbrev pub replyOf : Verdict → Reply
+replyOf clean = ok
+replyOf (broken m) = bad m
+
+-- "At most 1,000,000 ticks."
+abbrev pub mostTicks : ℕ
+mostTicks = 1000000
+
+abbrev pub isFull : (oks : ℕ) → Bool
+isFull oks = leb mostTicks oks
+
+-- the word has a bit above the wires
+abbrev pub isStray : (wires word : ℕ) → Bool
+isStray wires w = leb (2 ^ wires) w
+
+-- What stands between two calls: what the next word is judged by, how many calls were ok, and whether one was bad.
+pub record State (S : Type 0) : Type 0 where
+  pub inner : S
+  pub oks : ℕ
+  pub stopped : Bool
+
+abbrev pub opening : {S : Type 0} → S → State S
+opening s = record { inner = s; oks = 0; stopped = false }
+
+-- S is the history of the words, or the watch of the machine; judge and move are what it makes of a word.
+module _ {S : Type 0} where
+  -- "A call is refused with 16 exactly if an earlier call of the list was bad; if none was, with 17 exactly if 1,000,000
+  -- earlier calls were ok; if neither, with 15 exactly if its word has a bit above the text's wires. Every other call is
+  -- ok or bad." The state holds just what this asks of the earlier calls: only ok adds to oks, and only bad sets stopped.
+  unfoldable pub reply : (judge : S → ℕ → Verdict) (wires : ℕ) → State S → ℕ → Reply
+  reply judge wires s w =
+      cond (s .stopped) (refused 16)
+      (cond (isFull (s .oks)) (refused 17)
+      (cond (isStray wires w) (refused 15)
+      (replyOf (judge (s .inner) w))))
+
+  -- "The words are those of the calls not refused, in order": an ok call's word is moved by. After a bad one "the watch is
+  -- then stopped and otherwise as before the tick". A refusal "changes no watch".
+  abbrev pub after : (move : S → ℕ → S) → State S → ℕ → Reply → State S
+  after move s w ok = record { inner = move (s .inner) w; oks = suc (s .oks); stopped = s .stopped }
+  after move s w (bad m) = record { inner = s .inner; oks = s .oks; stopped = true }
+  after move s w (refused n) = s
+
+  -- "Each call gets the watch that the call before it returned or left"
+  unfoldable pub repliesFrom : (judge : S → ℕ → Verdict) (move : S → ℕ → S) (wires : ℕ) → State S → List ℕ → List Reply
+  repliesFrom judge move wires s [] = []
+  repliesFrom judge move wires s (w ∷ ws) = reply judge wires s w ∷ repliesFrom judge move wires (after move s w (reply judge wires s w)) ws
+
+-- the replies that the words' meaning fixes, from the monitors, the first store values and the number of wires
+abbrev pub replies : List Exp → List ℕ → ℕ → List ℕ → List Reply
+replies ms initial wires ws = repliesFrom (judged ms) (onward ms) wires (opening (start initial)) ws
+
+-- the replies of the machine of active positions
+abbrev pub machineReplies : List Exp → List ℕ → ℕ → List ℕ → List Reply
+machineReplies ms initial wires ws = repliesFrom (answer ms) (moved ms) wires (opening (opened ms initial)) ws
+
+-- ---- the same sentence, of one call and the list of those before it ----
+
+abbrev pub isOk : Reply → Bool
+isOk ok = true
+isOk (bad m) = false
+isOk (refused n) = false
+
+abbrev pub isBad : Reply → Bool
+isBad ok = false
+isBad (bad m) = true
+isBad (refused n) = false
+
+abbrev pub isRefused : Reply → Bool
+isRefused ok = false
+isRefused (bad m) = false
+isRefused (refused n) = true
+
+-- the words of the calls not refused
+abbrev pub judgedWords : List ℕ → List Reply → List ℕ
+judgedWords [] rs = []
+judgedWords (w ∷ ws) [] = []
+judgedWords (w ∷ ws) (r ∷ rs) = only (not (isRefused r)) (w ∷ []) ++ judgedWords ws rs
+
+-- the call with word w, after calls with the words ws and the replies rs, is rightly answered with r
+pub record Rightly (ms : List Exp) (initial : List ℕ) (wires : ℕ) (ws : List ℕ) (rs : List Reply) (w : ℕ) (r : Reply) : Type 0 where
+  pub stopped : r ≡ refused 16 ↔ T (any isBad rs)
+  pub full : r ≡ refused 17 ↔ (T (not (any isBad rs)) × (count isOk rs ≡ 1000000))
+  pub stray : r ≡ refused 15 ↔ (T (not (any isBad rs)) × (count isOk rs ≡ 1000000 → ⊥) × (2 ^ wires ≤ w))
+  pub other : T (not (any isBad rs)) → (count isOk rs ≡ 1000000 → ⊥) → w < 2 ^ wires → r ≡ replyOf (judged ms (history ms initial (judgedWords ws rs)) w)
+
+-- every call of the list is
+abbrev pub AllRightly : List Exp → List ℕ → ℕ → List ℕ → List Reply → Type 0
+AllRightly ms initial wires ws rs =
+    (n : ℕ) → n < length ws → Rightly ms initial wires (take n ws) (take n rs) (getD ws n 0) (getD rs n ok)

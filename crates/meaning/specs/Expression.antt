@@ -1,0 +1,80 @@
+-- Letters and expressions, productions already opened.
+use mathlib.Core.List.{List, [], _∷_, _++_}
+use mathlib.Core.Path.{_≡_}
+use Prim.Native.Nat.{ℕ, _+_, _/_, _%_, _^_}
+
+-- ---- letters ----
+
+-- "A literal is a one-bit wire, a wire bit `N[i]`, either with `!` before it, `wire == number`, `wire == store`,
+-- `store == number`". Wires are the bits lo to lo + width - 1 of the word; a one-bit wire or a wire bit is a field of
+-- width 1 that is 1, or 0 with `!`.
+pub data Literal : Type 0 where
+  wire : (lo width number : ℕ) → Literal  -- wire == number
+  wire-store : (lo width store : ℕ) → Literal  -- wire == store
+  store : (store number : ℕ) → Literal  -- store == number
+
+-- "a write is `store <- wire;` or `store <- number;`"
+pub data Write : Type 0 where
+  from-wire : (store lo width : ℕ) → Write  -- store <- wire;
+  from-number : (store number : ℕ) → Write  -- store <- number;
+
+-- "A letter is literals joined by `&`, then optionally .. writes"; number is its own in its monitor.
+pub record Letter : Type 0 where
+  pub number : ℕ
+  pub literals : List Literal
+  pub writes : List Write
+
+-- the value of wires in a word
+abbrev pub field : (lo width word : ℕ) → ℕ
+field lo width word = (word / 2 ^ lo) % 2 ^ width
+
+-- ---- expressions ----
+
+pub data Exp : Type 0 where
+  letter : Letter → Exp
+  seq : Exp → Exp → Exp  -- e , f
+  alt : Exp → Exp → Exp  -- e || f
+  star : Exp → Exp  -- e*
+  pipe : Exp → Exp → Exp  -- e @ f
+
+-- the letters in reading order
+unfoldable pub letters : Exp → List Letter
+letters (letter l) = l ∷ []
+letters (seq e f) = letters e ++ letters f
+letters (alt e f) = letters e ++ letters f
+letters (star e) = letters e
+letters (pipe e f) = letters e ++ letters f
+
+-- how many letters
+unfoldable pub size : Exp → ℕ
+size (letter l) = 1
+size (seq e f) = size e + size f
+size (alt e f) = size e + size f
+size (star e) = size e
+size (pipe e f) = size e + size f
+
+-- "one row for each letter and each operator, counted after opening"
+unfoldable pub rows : Exp → ℕ
+rows (letter l) = 1
+rows (seq e f) = 1 + rows e + rows f
+rows (alt e f) = 1 + rows e + rows f
+rows (star e) = 1 + rows e
+rows (pipe e f) = 1 + rows e + rows f
+
+-- ---- "Letters are numbered from 0 within a monitor in reading order" ----
+
+-- the same expression with its letters numbered from k; a monitor's are from 0
+unfoldable pub renumbered : ℕ → Exp → Exp
+renumbered k (letter l) = letter (record { number = k; literals = l .literals; writes = l .writes })
+renumbered k (seq e f) = seq (renumbered k e) (renumbered (k + size e) f)
+renumbered k (alt e f) = alt (renumbered k e) (renumbered (k + size e) f)
+renumbered k (star e) = star (renumbered k e)
+renumbered k (pipe e f) = pipe (renumbered k e) (renumbered (k + size e) f)
+
+-- its letters are numbered from k
+abbrev pub Ordered : ℕ → Exp → Type 0
+Ordered k (letter l) = l .number ≡ k
+Ordered k (seq e f) = Ordered k e × Ordered (k + size e) f
+Ordered k (alt e f) = Ordered k e × Ordered (k + size e) f
+Ordered k (star e) = Ordered k e
+Ordered k (pipe e f) = Ordered k e × Ordered (k + size e) f

@@ -1,0 +1,13 @@
+-- What rule texts, words and calls mean, as definitions that compute, in the order of 01.
+pub mod Lists
+pub mod Answers
+pub mod Expression
+pub mod Reading
+pub mod Shape
+pub mod Opening
+pub mod Fit
+pub mod Calls
+pub mod Positions
+pub mod Table
+pub mod Sheet
+pub mod Examples

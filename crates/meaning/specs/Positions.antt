@@ -1,0 +1,134 @@
+-- The machine of active positions (01: marks): it keeps the letters just met, and at each tick asks for what follows each.
+use mathlib.Core.List.{List, [], _∷_, _++_, map}
+use mathlib.Core.Bool.{Bool, cond}
+use mathlib.Core.Option.{Option, none, some}
+use Prim.Native.Nat.{ℕ, suc}
+use lib.Dec.{eqb}
+use Rattle.meaning.specs.Lists.{each, any, only, member}
+use Rattle.meaning.specs.Expression.{Exp, letter, seq, alt, star, pipe, letters}
+use Rattle.meaning.specs.Fit.{Tick, meets, writeMet, Verdict, ok, bad, onOk}
+
+-- ---- one monitor ----
+
+-- The letters that become active on one way to go on; none: there is no way.
+abbrev pub Way : Type 0
+Way = Tick → Option (List ℕ)
+
+abbrev pub stuck : Way
+stuck t = none
+
+abbrev pub over : Way
+over t = some []
+
+abbrev pub orElse : Option (List ℕ) → Option (List ℕ) → Option (List ℕ)
+orElse none b = b
+orElse (some ns) b = some ns
+
+abbrev pub joined : Option (List ℕ) → Option (List ℕ) → Option (List ℕ)
+joined none b = none
+joined (some ns) none = none
+joined (some ns) (some ms) = some (ns ++ ms)
+
+-- e is asked, and K where it is left at once
+unfoldable pub ask : Exp → Way → Way
+ask (letter l) K t = cond (meets l t) (some (l .number ∷ [])) none
+ask (seq e f) K t = ask e (ask f K) t
+ask (alt e f) K t = orElse (ask e K t) (ask f K t)
+ask (star e) K t = orElse (K t) (ask e stuck t)
+ask (pipe e f) K t = ask e (λ u. joined (K u) (ask f over u)) t
+
+-- letter n stands in e
+abbrev pub has : ℕ → Exp → Bool
+has n e = any (λ l. eqb n (l .number)) (letters e)
+
+-- letter n of e is left: up through what it stands in, to K
+unfoldable pub leave : ℕ → Exp → Way → Way
+leave n (letter l) K t = K t
+leave n (seq e f) K t = cond (has n e) (leave n e (ask f K) t) (leave n f K t)
+leave n (alt e f) K t = cond (has n e) (leave n e K t) (leave n f K t)
+leave n (star e) K t = leave n e (ask (star e) K) t
+leave n (pipe e f) K t = cond (has n e) (leave n e (λ u. joined (K u) (ask f over u)) t) (leave n f over t)
+
+-- The active positions of one monitor: its start, or the letters met at the last tick.
+pub data Positions : Type 0 where
+  at-start : Positions
+  on : List ℕ → Positions
+
+-- every position must go on
+unfoldable pub goAll : (ℕ → Way) → List ℕ → Way
+goAll W [] t = some []
+goAll W (n ∷ ns) t = joined (W n t) (goAll W ns t)
+
+-- one tick of the monitor m
+unfoldable pub go : Exp → Positions → Way
+go m at-start t = ask (star m) stuck t
+go m (on ns) t = goAll (λ n. leave n (star m) stuck) ns t
+
+-- ---- the watch ----
+
+-- The positions of each monitor, and the store values.
+pub record Watch : Type 0 where
+  pub positions : List Positions
+  pub stores : List ℕ
+
+-- "Opening gives .. first store values and one start mark a monitor."
+abbrev pub opened : List Exp → List ℕ → Watch
+opened ms initial = record { positions = map (λ m. at-start) ms; stores = initial }
+
+-- One tick of all monitors: the letters met in each, or the lowest monitor that no longer fits.
+pub data Ticked : Type 0 where
+  fine : List (List ℕ) → Ticked
+  wrong : (monitor : ℕ) → Ticked
+
+abbrev pub withMore : List ℕ → Ticked → Ticked
+withMore ns (fine nss) = fine (ns ∷ nss)
+withMore ns (wrong i) = wrong i
+
+abbrev pub goOn : ℕ → Option (List ℕ) → Ticked → Ticked
+goOn i none more = wrong i
+goOn i (some ns) more = withMore ns more
+
+unfoldable pub goEach : ℕ → List Exp → List Positions → Tick → Ticked
+goEach i [] xs t = fine []
+goEach i (m ∷ ms) [] t = fine []
+goEach i (m ∷ ms) (x ∷ xs) t = goOn i (go m x t) (goEach (suc i) ms xs t)
+
+unfoldable pub writeEach : Tick → List Exp → List (List ℕ) → List ℕ → List ℕ
+writeEach t [] nss σ = σ
+writeEach t (m ∷ ms) [] σ = σ
+writeEach t (m ∷ ms) (ns ∷ nss) σ = writeEach t ms nss (writeMet t m ns σ)
+
+-- the positions of m as a set: each letter of ns once, in reading order
+unfoldable pub kept : Exp → List ℕ → List ℕ
+kept m ns = each (letters m) (λ l. only (member (l .number) ns) (l .number ∷ []))
+
+unfoldable pub keptEach : List Exp → List (List ℕ) → List Positions
+keptEach [] nss = []
+keptEach (m ∷ ms) [] = []
+keptEach (m ∷ ms) (ns ∷ nss) = on (kept m ns) ∷ keptEach ms nss
+
+abbrev pub seen : Watch → ℕ → Tick
+seen v w = record { word = w; stores = v .stores }
+
+abbrev pub ticked : List Exp → Watch → ℕ → Ticked
+ticked ms v w = goEach 0 ms (v .positions) (seen v w)
+
+-- the watch after the tick; "the marks after a tick are a new set"; after a bad one it is "as before the tick"
+abbrev pub movedBy : List Exp → Watch → ℕ → Ticked → Watch
+movedBy ms v w (fine nss) = record { positions = keptEach ms nss; stores = writeEach (seen v w) ms nss (v .stores) }
+movedBy ms v w (wrong i) = v
+
+abbrev pub moved : List Exp → Watch → ℕ → Watch
+moved ms v w = movedBy ms v w (ticked ms v w)
+
+abbrev pub told : Ticked → Verdict
+told (fine nss) = ok
+told (wrong i) = bad i
+
+abbrev pub answer : List Exp → Watch → ℕ → Verdict
+answer ms v w = told (ticked ms v w)
+
+-- the answers to words one after the other; the first bad one stops the watch
+unfoldable pub answers : List Exp → Watch → List ℕ → List Verdict
+answers ms v [] = []
+answers ms v (w ∷ ws) = onOk (answer ms v w) (answers ms (moved ms v w) ws)

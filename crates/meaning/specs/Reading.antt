@@ -1,0 +1,426 @@
+-- Reading a rule text (01, "The rule text"). The tokens are judged one after the other, each with those before it: what is expected next, and what has been declared so
+-- far, is all that reading keeps. So the earliest token at fault is the one refused. A name that is a wire wider than one, bare, is refused when the next token shows it.
+-- Assumes nothing.
+use mathlib.Core.Bool.{Bool, true, false, not, cond, _&&_, _||_}
+use mathlib.Core.List.{List, [], _∷_, _++_}
+use mathlib.Core.Option.{Option, none, some}
+use Prim.Native.Nat.{ℕ, suc, _+_, _^_}
+use lib.Dec.{eqb, leb, ltb}
+use lib.ListN.{length}
+use Rattle.lexer.specs.Bytes.{Entry, lookup}
+use Rattle.lexer.specs.Signs.{semicolon, comma, atSign, star as asterisk, ampersand, bang, leftParen, rightParen, leftBracket, rightBracket, leftBrace, rightBrace, colon, equals, doubleEquals, doubleBar, rightArrow, leftArrow}
+use Rattle.lexer.specs.Tokens as token
+use Rattle.lexer.specs.Tokens.{Token, Placed, tokens}
+use Rattle.meaning.specs.Expression.{Literal, wire, wire-store, store, Write, from-wire, from-number, Exp, letter, seq, alt, star, pipe}
+use Rattle.meaning.specs.Answers.{Answer, value, refused, byte, overlong, misplaced, unknown, twice, oversize, crowded}
+
+-- ---- what has been declared
+
+-- What a name stands for. A production's name stands for a copy of its expression, so the expression has no names left in it.
+pub data Meaning : Type 0 where
+  anInput : (lo width : ℕ) → Meaning
+  aStore : (number width : ℕ) → Meaning
+  aDefine : List Literal → Meaning
+  aProduction : Exp → Meaning
+
+pub record Names : Type 0 where
+  pub declared : List (Entry Meaning)
+  -- how many wires of the word are taken
+  pub wires : ℕ
+  -- the first values of the stores
+  pub first : List ℕ
+
+abbrev pub noNames : Names
+noNames = record { declared = []; wires = 0; first = [] }
+
+pub data Declaration : Type 0 where
+  newInput : List ℕ → (width : ℕ) → Declaration
+  newStore : List ℕ → (width first : ℕ) → Declaration
+  newDefine : List ℕ → List Literal → Declaration
+  newProduction : List ℕ → Exp → Declaration
+
+abbrev pub withName : List ℕ → Meaning → List (Entry Meaning) → List (Entry Meaning)
+withName s m es = record { spelling = s; meaning = m } ∷ es
+
+-- "Wires take the bits of a 64-bit word from bit 0 in order."
+unfoldable pub declare : Declaration → Names → Names
+declare (newInput s width) ns =
+    record { declared = withName s (anInput (ns .wires) width) (ns .declared); wires = ns .wires + width; first = ns .first }
+declare (newStore s width v) ns =
+    record { declared = withName s (aStore (length (ns .first)) width) (ns .declared); wires = ns .wires; first = ns .first ++ (v ∷ []) }
+declare (newDefine s ls) ns = record { declared = withName s (aDefine ls) (ns .declared); wires = ns .wires; first = ns .first }
+declare (newProduction s e) ns = record { declared = withName s (aProduction e) (ns .declared); wires = ns .wires; first = ns .first }
+
+-- ---- an expression that is being read
+
+-- One level of parentheses: what stands left of the last `||`, of the last `,` behind that, and of an `@` behind that.
+pub record Level : Type 0 where
+  pub alts : Option Exp
+  pub seqs : Option Exp
+  pub left : Option Exp
+
+abbrev pub newLevel : Level
+newLevel = record { alts = none; seqs = none; left = none }
+
+-- A production that is being read: its name, the innermost open level and those around it.
+pub record Open : Type 0 where
+  pub name : List ℕ
+  pub level : Level
+  pub outer : List Level
+
+abbrev pub onLevel : Open → Level → Open
+onLevel o l = record { name = o .name; level = l; outer = o .outer }
+
+abbrev pub join : (Exp → Exp → Exp) → Option Exp → Exp → Exp
+join op none e = e
+join op (some d) e = op d e
+
+-- what the operand e makes with an `@`, with the `,` and with the `||` before it; "the last two group to the left"
+abbrev pub piped : Level → Exp → Exp
+piped l e = join pipe (l .left) e
+
+abbrev pub sequenced : Level → Exp → Exp
+sequenced l e = join seq (l .seqs) (piped l e)
+
+abbrev pub whole : Level → Exp → Exp
+whole l e = join alt (l .alts) (sequenced l e)
+
+abbrev pub behindAt : Level → Exp → Level
+behindAt l e = record { alts = l .alts; seqs = l .seqs; left = some e }
+
+abbrev pub behindComma : Level → Exp → Level
+behindComma l e = record { alts = l .alts; seqs = some (sequenced l e); left = none }
+
+abbrev pub behindBars : Level → Exp → Level
+behindBars l e = record { alts = some (whole l e); seqs = none; left = none }
+
+-- ---- what is expected next
+
+-- literals stand in a define or in a letter
+pub data Context : Type 0 where
+  inDefine : List ℕ → Context
+  inLetter : Open → Context
+
+pub data Expect : Type 0 where
+  -- a declaration, or the monitor statement
+  statement : Expect
+  -- this sign, and then what follows it
+  sign : ℕ → Expect → Expect
+  -- the number 0, and then what follows it
+  nought : Expect → Expect
+  -- `;`, with which the declaration stands
+  closing : Declaration → Expect
+  -- behind `input`, behind its name, and h
+  inputName : Expect
+  inputMore : List ℕ → Expect
+  inputHigh : List ℕ → Expect
+  -- behind `internal`, behind its name, h, and the first value
+  storeName : Expect
+  storeMore : List ℕ → Expect
+  storeHigh : List ℕ → Expect
+  storeFirst : List ℕ → (width : ℕ) → Expect
+  -- behind `define`
+  defineName : Expect
+  -- what an operator works on: a letter, a production's name or a parenthesis
+  operand : Open → Expect
+  -- a literal behind those there are, and its name behind `!`
+  literal : Context → List Literal → Expect
+  negated : Context → List Literal → Expect
+  -- behind the name of a wire, which has its place, and is to be `value` where it is a literal by itself
+  wireMore : Context → List Literal → (lo width value place : ℕ) → Expect
+  -- i of `N[i]`, and what a wire or a store is compared with
+  bitIndex : Context → List Literal → (lo width value : ℕ) → Expect
+  wireEquals : Context → List Literal → (lo width : ℕ) → Expect
+  storeEquals : Context → List Literal → (number width : ℕ) → Expect
+  -- behind a literal
+  literalMore : Context → List Literal → Expect
+  -- the name of a written store, what is written, and behind a write
+  writeStore : Open → List Literal → List Write → Expect
+  writeValue : Open → List Literal → List Write → (number width : ℕ) → Expect
+  writeMore : Open → List Literal → List Write → Expect
+  -- behind an operand, which has its `*` or not
+  operandMore : Open → Exp → (starred : Bool) → Expect
+  -- a monitor's name, behind it, and the end of the text
+  monitorName : List Exp → Expect
+  monitorMore : List Exp → Expect
+  textEnd : List Exp → Expect
+
+-- What reading gives: the number of wires, the stores' first values, and the monitors.
+pub record Program : Type 0 where
+  pub wires : ℕ
+  pub first : List ℕ
+  pub monitors : List Exp
+
+-- what a token leads to
+pub data Step : Type 0 where
+  go : Names → Expect → Step
+  finished : Program → Step
+  fault : (number place : ℕ) → Step
+
+-- ---- judging a token
+
+-- a token that is not allowed here: a knot is refused as that, any other token and the end as misplaced
+abbrev pub numberOf : Token → ℕ
+numberOf (token.name s) = misplaced
+numberOf (token.word w) = misplaced
+numberOf (token.number n) = misplaced
+numberOf (token.sign n) = misplaced
+numberOf token.end = misplaced
+numberOf (token.refused n) = n
+
+unfoldable pub notHere : Placed → Step
+notHere t = fault (numberOf (t .token)) (t .place)
+
+unfoldable pub atToken : ℕ → Placed → Step
+atToken number t = fault number (t .place)
+
+-- one step or another
+unfoldable pub choose : Bool → Step → Step → Step
+choose true a b = a
+choose false a b = b
+
+abbrev pub isSign : ℕ → Token → Bool
+isSign k (token.name s) = false
+isSign k (token.word w) = false
+isSign k (token.number n) = false
+isSign k (token.sign n) = eqb k n
+isSign k token.end = false
+isSign k (token.refused n) = false
+
+abbrev pub is : ℕ → Placed → Bool
+is k t = isSign k (t .token)
+
+unfoldable pub ifName : Token → (List ℕ → Step) → Step → Step
+ifName (token.name s) then other = then s
+ifName (token.word w) then other = other
+ifName (token.number n) then other = other
+ifName (token.sign n) then other = other
+ifName token.end then other = other
+ifName (token.refused n) then other = other
+
+unfoldable pub onName : Placed → (List ℕ → Step) → Step
+onName t then = ifName (t .token) then (notHere t)
+
+unfoldable pub ifNumber : Token → (ℕ → Step) → Step → Step
+ifNumber (token.name s) then other = other
+ifNumber (token.word w) then other = other
+ifNumber (token.number n) then other = then n
+ifNumber (token.sign n) then other = other
+ifNumber token.end then other = other
+ifNumber (token.refused n) then other = other
+
+unfoldable pub onNumber : Placed → (ℕ → Step) → Step
+onNumber t then = ifNumber (t .token) then (notHere t)
+
+-- the first fault that holds, in the order of 01's numbers, else what follows
+unfoldable pub unless : Bool → ℕ → Placed → Step → Step
+unless wrong number t next = choose wrong (atToken number t) next
+
+abbrev pub isKnown : Option Meaning → Bool
+isKnown none = false
+isKnown (some m) = true
+
+-- A new name: 5 where it is declared, 6 where no wire is left for it, 7 where there are 128 names or no room for one of its kind.
+unfoldable pub newName : Names → Placed → (noWire full : Bool) → (List ℕ → Step) → Step
+newName ns t noWire full next =
+    onName t (λ s.
+    unless (isKnown (lookup s (ns .declared))) twice t
+    (unless noWire oversize t
+    (unless (full || leb 128 (length (ns .declared))) crowded t (next s))))
+
+-- by the kind of a name
+unfoldable pub byKind : Option Meaning → (ℕ → ℕ → Step) → (ℕ → ℕ → Step) → (List Literal → Step) → (Exp → Step) → Step → Step
+byKind none i s d p other = other
+byKind (some (anInput lo width)) i s d p other = i lo width
+byKind (some (aStore n width)) i s d p other = s n width
+byKind (some (aDefine ls)) i s d p other = d ls
+byKind (some (aProduction e)) i s d p other = p e
+
+unfoldable pub known : Names → Placed → (ℕ → ℕ → Step) → (ℕ → ℕ → Step) → (List Literal → Step) → (Exp → Step) → Step
+known ns t i s d p = onName t (λ n. byKind (lookup n (ns .declared)) i s d p (atToken unknown t))
+
+-- a name of another kind than is allowed here
+abbrev pub noPair : Placed → ℕ → ℕ → Step
+noPair t a b = atToken unknown t
+
+abbrev pub noLiterals : Placed → List Literal → Step
+noLiterals t ls = atToken unknown t
+
+abbrev pub noExp : Placed → Exp → Step
+noExp t e = atToken unknown t
+
+-- ---- literals
+
+-- the store tests among literals
+unfoldable pub storeTests : List Literal → ℕ
+storeTests [] = 0
+storeTests (wire lo width v ∷ ls) = storeTests ls
+storeTests (wire-store lo width s ∷ ls) = suc (storeTests ls)
+storeTests (store s v ∷ ls) = suc (storeTests ls)
+
+-- "2 store tests .. a letter after defines are opened": so many more are too many. A define may hold any number.
+abbrev pub tooMany : Context → List Literal → ℕ → Bool
+tooMany (inDefine s) ls more = false
+tooMany (inLetter o) ls more = ltb 2 (storeTests ls + more)
+
+-- a literal more
+abbrev pub withLiteral : Names → Context → List Literal → Literal → Step
+withLiteral ns c ls l = go ns (literalMore c (ls ++ (l ∷ [])))
+
+-- the name that begins a literal; `pr` is what a production's name leads to here
+unfoldable pub literalName : Names → Context → List Literal → Placed → (Exp → Step) → Step
+literalName ns c ls t pr =
+    known ns t
+    (λ lo width. go ns (wireMore c ls lo width 1 (t .place)))
+    (λ s width. unless (tooMany c ls 1) crowded t (go ns (sign doubleEquals (storeEquals c ls s width))))
+    (λ ds. unless (tooMany c ls (storeTests ds)) crowded t (go ns (literalMore c (ls ++ ds))))
+    pr
+
+-- ---- behind an operand
+
+-- the levels around: a `)` closes the innermost, and `;` ends the production where none is open
+abbrev pub onRightParen : Names → Open → Exp → List Level → Placed → Step
+onRightParen ns o e [] t = notHere t
+onRightParen ns o e (l ∷ ls) t = go ns (operandMore (record { name = o .name; level = l; outer = ls }) (whole (o .level) e) false)
+
+abbrev pub onSemicolon : Names → Open → Exp → List Level → Placed → Step
+onSemicolon ns o e [] t = go (declare (newProduction (o .name) (whole (o .level) e)) ns) statement
+onSemicolon ns o e (l ∷ ls) t = notHere t
+
+abbrev isNone : Option Exp → Bool
+isNone none = true
+isNone (some e) = false
+
+-- "`*` (once), `@` (once; more need parentheses), `,`, `||`"
+unfoldable pub behindOperand : Names → Open → Exp → Bool → Placed → Step
+behindOperand ns o e starred t =
+    choose (is asterisk t && not starred) (go ns (operandMore o (star e) true))
+    (choose (is atSign t && isNone (o .level .left)) (go ns (operand (onLevel o (behindAt (o .level) e))))
+    (choose (is comma t) (go ns (operand (onLevel o (behindComma (o .level) e))))
+    (choose (is doubleBar t) (go ns (operand (onLevel o (behindBars (o .level) e))))
+    (choose (is rightParen t) (onRightParen ns o e (o .outer) t)
+    (choose (is semicolon t) (onSemicolon ns o e (o .outer) t)
+    (notHere t))))))
+
+abbrev pub aLetter : List Literal → List Write → Exp
+aLetter ls ws = letter (record { number = 0; literals = ls; writes = ws })
+
+unfoldable pub behindLiteral : Names → Context → List Literal → Placed → Step
+behindLiteral ns (inDefine s) ls t =
+    choose (is ampersand t) (go ns (literal (inDefine s) ls))
+    (choose (is semicolon t) (go (declare (newDefine s ls) ns) statement) (notHere t))
+behindLiteral ns (inLetter o) ls t =
+    choose (is ampersand t) (go ns (literal (inLetter o) ls))
+    (choose (is leftBrace t) (go ns (writeStore o ls [])) (behindOperand ns o (aLetter ls []) false t))
+
+-- ---- one token
+
+-- "Parentheses may nest 32 deep."
+abbrev pub openParen : Names → Open → Placed → Step
+openParen ns o t =
+    unless (leb 32 (length (o .outer))) crowded t
+    (go ns (operand (record { name = o .name; level = newLevel; outer = o .level ∷ o .outer })))
+
+-- "2 writes a letter"
+abbrev pub writtenStore : Names → Open → List Literal → List Write → Placed → Step
+writtenStore ns o ls ws t =
+    known ns t (noPair t)
+    (λ s width. unless (leb 2 (length ws)) crowded t (go ns (sign leftArrow (writeValue o ls ws s width))))
+    (noLiterals t) (noExp t)
+
+-- `:0]`, and then what follows
+abbrev pub toZero : Expect → Expect
+toZero x = sign colon (nought (sign rightBracket x))
+
+abbrev pub ofWord : Names → token.Word → Step
+ofWord ns token.input = go ns inputName
+ofWord ns token.internal = go ns storeName
+ofWord ns token.define = go ns defineName
+ofWord ns token.monitor = go ns (monitorName [])
+
+-- the name of a production begins its statement
+abbrev pub ofProduction : Names → Placed → Step
+ofProduction ns t = newName ns t false false (λ s. go ns (sign rightArrow (operand (record { name = s; level = newLevel; outer = [] }))))
+
+abbrev pub begin : Names → Placed → Token → Step
+begin ns t (token.name s) = ofProduction ns t
+begin ns t (token.word w) = ofWord ns w
+begin ns t (token.number n) = notHere t
+begin ns t (token.sign n) = notHere t
+begin ns t token.end = notHere t
+begin ns t (token.refused n) = notHere t
+
+abbrev pub atEnd : Names → List Exp → Placed → Token → Step
+atEnd ns ms t (token.name s) = notHere t
+atEnd ns ms t (token.word w) = notHere t
+atEnd ns ms t (token.number n) = notHere t
+atEnd ns ms t (token.sign n) = notHere t
+atEnd ns ms t token.end = finished (record { wires = ns .wires; first = ns .first; monitors = ms })
+atEnd ns ms t (token.refused n) = notHere t
+
+unfoldable pub step : Names → Expect → Placed → Step
+step ns statement t = begin ns t (t .token)
+step ns (sign k x) t = choose (is k t) (go ns x) (notHere t)
+step ns (nought x) t = onNumber t (λ n. choose (eqb n 0) (go ns x) (notHere t))
+step ns (closing d) t = choose (is semicolon t) (go (declare d ns) statement) (notHere t)
+step ns inputName t = newName ns t (leb 64 (ns .wires)) false (λ s. go ns (inputMore s))
+step ns (inputMore s) t =
+    choose (is semicolon t) (go (declare (newInput s 1) ns) statement) (choose (is leftBracket t) (go ns (inputHigh s)) (notHere t))
+step ns (inputHigh s) t =
+    onNumber t (λ h. unless (ltb 63 h || ltb 64 (ns .wires + suc h)) oversize t (go ns (toZero (closing (newInput s (suc h))))))
+step ns storeName t = newName ns t false (leb 16 (length (ns .first))) (λ s. go ns (storeMore s))
+step ns (storeMore s) t = choose (is equals t) (go ns (storeFirst s 1)) (choose (is leftBracket t) (go ns (storeHigh s)) (notHere t))
+step ns (storeHigh s) t =
+    onNumber t (λ h. unless (ltb 63 h) oversize t (go ns (toZero (sign equals (storeFirst s (suc h))))))
+step ns (storeFirst s width) t = onNumber t (λ v. unless (leb (2 ^ width) v) oversize t (go ns (closing (newStore s width v))))
+step ns defineName t = newName ns t false false (λ s. go ns (sign equals (literal (inDefine s) [])))
+step ns (operand o) t =
+    choose (is leftParen t) (openParen ns o t)
+    (choose (is bang t) (go ns (negated (inLetter o) []))
+    (literalName ns (inLetter o) [] t (λ e. go ns (operandMore o e false))))
+step ns (literal c ls) t = choose (is bang t) (go ns (negated c ls)) (literalName ns c ls t (noExp t))
+step ns (negated c ls) t =
+    known ns t (λ lo width. go ns (wireMore c ls lo width 0 (t .place))) (noPair t) (noLiterals t) (noExp t)
+step ns (wireMore c ls lo width v p) t =
+    choose (is leftBracket t) (go ns (bitIndex c ls lo width v))
+    (choose (is doubleEquals t) (choose (eqb v 1) (go ns (wireEquals c ls lo width)) (notHere t))
+    (choose (eqb width 1) (behindLiteral ns c (ls ++ (wire lo 1 v ∷ [])) t) (fault oversize p)))
+step ns (bitIndex c ls lo width v) t =
+    onNumber t (λ i. unless (leb width i) oversize t (go ns (sign rightBracket (literalMore c (ls ++ (wire (lo + i) 1 v ∷ []))))))
+step ns (wireEquals c ls lo width) t =
+    ifNumber (t .token) (λ v. unless (leb (2 ^ width) v) oversize t (withLiteral ns c ls (wire lo width v)))
+    (known ns t (noPair t)
+    (λ s w. unless (not (eqb w width)) oversize t (unless (tooMany c ls 1) crowded t (withLiteral ns c ls (wire-store lo width s))))
+    (noLiterals t) (noExp t))
+step ns (storeEquals c ls s width) t =
+    onNumber t (λ v. unless (leb (2 ^ width) v) oversize t (withLiteral ns c ls (store s v)))
+step ns (literalMore c ls) t = behindLiteral ns c ls t
+step ns (writeStore o ls ws) t = writtenStore ns o ls ws t
+step ns (writeValue o ls ws s width) t =
+    ifNumber (t .token)
+    (λ v. unless (leb (2 ^ width) v) oversize t (go ns (sign semicolon (writeMore o ls (ws ++ (from-number s v ∷ []))))))
+    (known ns t
+    (λ lo w. unless (not (eqb w width)) oversize t (go ns (sign semicolon (writeMore o ls (ws ++ (from-wire s lo w ∷ []))))))
+    (noPair t) (noLiterals t) (noExp t))
+step ns (writeMore o ls ws) t = choose (is rightBrace t) (go ns (operandMore o (aLetter ls ws) false)) (writtenStore ns o ls ws t)
+step ns (operandMore o e starred) t = behindOperand ns o e starred t
+step ns (monitorName ms) t =
+    known ns t (noPair t) (noPair t) (noLiterals t) (λ e. unless (leb 32 (length ms)) crowded t (go ns (monitorMore (ms ++ (e ∷ [])))))
+step ns (monitorMore ms) t = choose (is comma t) (go ns (monitorName ms)) (choose (is semicolon t) (go ns (textEnd ms)) (notHere t))
+step ns (textEnd ms) t = atEnd ns ms t (t .token)
+
+-- ---- the whole text
+
+abbrev pub follow : Step → (Names → Expect → Answer Program) → Answer Program
+follow (go ns x) next = next ns x
+follow (finished p) next = value p
+follow (fault number place) next = refused number (byte place)
+
+-- The last token is the end or a refusal, behind which nothing is read.
+unfoldable pub readOn : Names → Expect → List Placed → Answer Program
+readOn ns x [] = refused misplaced (byte 0)
+readOn ns x (t ∷ ts) = follow (step ns x t) (λ ms y. readOn ms y ts)
+
+-- "At most 16,384 bytes": "1 comes first, with place 0".
+unfoldable pub read : List ℕ → Answer Program
+read text = cond (ltb 16384 (length text)) (refused overlong (byte 0)) (readOn noNames statement (tokens text))

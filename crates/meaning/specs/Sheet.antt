@@ -1,0 +1,95 @@
+-- The printed sheet (01, "The printed sheet"), as a list of bytes from the bytes of the rule text and of the trace. Assumes nothing.
+use mathlib.Core.Bool.{cond}
+use mathlib.Core.List.{List, [], _∷_, _++_}
+use Prim.Native.Nat.{ℕ, zero, suc, _+_, _/_, _%_, _^_, _*_}
+use lib.Dec.{ltb}
+use lib.ListN.{length, drop}
+use Rattle.lexer.specs.Bytes.{bytes}
+use Rattle.meaning.specs.Answers.{Answer, value, refused, Place, byte, letterOf, tick}
+use Rattle.meaning.specs.Opening.{Opened, openText}
+use Rattle.meaning.specs.Fit.{History, start, onward, judged}
+use Rattle.meaning.specs.Calls as calls
+use Rattle.meaning.specs.Calls.{Reply, ok, bad, State, opening, reply, after}
+use Rattle.trace.specs.Answer as trace
+use Rattle.trace.specs.Record.{Item, word, end, readRecord}
+
+-- ---- numbers
+
+-- a digit; from ten on a lower-case letter
+abbrev digit : ℕ → ℕ
+digit d = cond (ltb d 10) (48 + d) (87 + d)
+
+-- the digits of n in a base, in front of those in hand; n has no more digits than it counts, and one at the least
+unfoldable pub digitsIn : ℕ → ℕ → ℕ → List ℕ → List ℕ
+digitsIn base zero n ds = digit (n % base) ∷ ds
+digitsIn base (suc k) n ds = elim (n / base) [ zero ↦ digit (n % base) ∷ ds | suc m ↦ digitsIn base k (n / base) (digit (n % base) ∷ ds) ]
+
+unfoldable pub decimal : ℕ → List ℕ
+decimal n = digitsIn 10 n n []
+
+-- so many hexadecimal digits
+unfoldable pub hexadecimal : ℕ → ℕ → List ℕ
+hexadecimal zero w = []
+hexadecimal (suc k) w = digit (w / 2 ^ (4 * k) % 16) ∷ hexadecimal k w
+
+-- ---- lines
+
+-- "Each line closes with a line feed, one space parts its fields."
+unfoldable pub line : List (List ℕ) → List ℕ
+line [] = 10 ∷ []
+line (f ∷ fs) = f ++ more fs
+  where
+    more : List (List ℕ) → List ℕ
+    more [] = 10 ∷ []
+    more (g ∷ gs) = 32 ∷ (g ++ more gs)
+
+abbrev placeFields : Place → List (List ℕ)
+placeFields (byte n) = decimal n ∷ []
+placeFields (letterOf m l) = decimal m ∷ decimal l ∷ []
+placeFields (tick n) = decimal n ∷ []
+
+-- "A refusal prints `refused` with number and place"
+unfoldable pub refusalLine : ℕ → Place → List ℕ
+refusalLine number place = line (bytes "refused" ∷ decimal number ∷ placeFields place)
+
+unfoldable pub countsLine : Opened → List ℕ
+countsLine o = line (bytes "rows" ∷ decimal (o .rowCount) ∷ bytes "letters" ∷ decimal (o .letterCount) ∷ [])
+
+-- "per tick its number, the word in 16 lower-case hexadecimal digits, and `ok` or `bad M`"
+abbrev tickLine : ℕ → ℕ → List (List ℕ) → List ℕ
+tickLine t w verdict = line (decimal t ∷ hexadecimal 16 w ∷ verdict)
+
+-- "else `clean N` with N ticks last"
+unfoldable pub cleanLine : ℕ → List ℕ
+cleanLine n = line (bytes "clean" ∷ decimal n ∷ [])
+
+-- ---- the ticks
+
+-- what tick t prints for the word w, and the lines behind it where it is ok
+abbrev onReply : Reply → ℕ → ℕ → List ℕ → List ℕ
+onReply ok t w rest = tickLine t w (bytes "ok" ∷ []) ++ rest
+onReply (bad m) t w rest = tickLine t w (bytes "bad" ∷ decimal m ∷ [])
+onReply (calls.refused number) t w rest = refusalLine number (tick t)
+
+-- what was read at tick t, and the lines for a word of so many bytes
+abbrev onItem : trace.Answer Item → ℕ → (ℕ → ℕ → List ℕ) → List ℕ
+onItem (trace.value (word w n)) t next = next w n
+onItem (trace.value end) t next = cleanLine t
+onItem (trace.refused number place) t next = refusalLine number (tick t)
+
+-- the lines from tick t on, where these bytes are left; a record has at least one byte
+unfoldable pub tickLines : ℕ → Opened → State History → ℕ → List ℕ → ℕ → List ℕ
+tickLines zero o s t rest before = cleanLine t
+tickLines (suc k) o s t rest before =
+    onItem (readRecord rest before) t (λ w n.
+    let r = reply (judged (o .monitors)) (o .wires) s w in
+    let more = tickLines k o (after (onward (o .monitors)) s w r) (suc t) (drop n rest) w in
+    onReply r t w more)
+
+abbrev ofText : Answer Opened → List ℕ → List ℕ
+ofText (value o) records = countsLine o ++ tickLines (length records) o (opening (start (o .first))) 0 records 0
+ofText (refused number place) records = refusalLine number place
+
+-- "for a refused text that line is the whole sheet"
+unfoldable pub sheet : List ℕ → List ℕ → List ℕ
+sheet text records = ofText (openText text) records
