@@ -17,6 +17,6 @@ pub mod Walk
 pub mod Calls
 pub mod Steps
 pub mod Blame
-pub mod Sizes
+pub mod Within
 pub mod Openings
 pub mod Examples

@@ -4,14 +4,17 @@ use mathlib.Core.Path.{_≡_, refl, sym, ap, _∙_, subst}
 use mathlib.Core.Logic.{_↔_, ⊎-elim}
 use mathlib.Core.Bool.{Bool, true, false, cond}
 use mathlib.Core.List.{List, [], _∷_, map}
-use Prim.Native.Nat.{ℕ, suc, _+_, _≤_, _<_}
+use Prim.Native.Nat.{ℕ, suc, _+_, _/_, _%_, _^_, _≤_, _<_}
+use native.Mathlib.Nat.{le-dest, mod-lt, lt-of-lt-of-le}
 use native.Mathlib.Omega.{arith}
-use lib.Dec.{ltb}
+use lib.Dec.{T, ltb, eqb}
+use lib.ListN.{length}
+use lib.Pow.{pow-pos, pow-mono, field as slice, mod-mod-pow}
 use borrow.Author.Tests.{ltb-false}
-use Rattle.meaning.specs.Lists.{_∈_, total}
+use Rattle.meaning.specs.Lists.{_∈_, all, total}
 use Rattle.meaning.specs.Answers.{Answer, value, refused, letterOf, longRun}
-use Rattle.meaning.specs.Expression.{Exp, letter, seq, alt, star, pipe, letters, size, rows, renumbered, Ordered}
-use Rattle.meaning.specs.Shape.{Sized, SizedLetters, AllRead, Shape, accepted, turned-away, shape, unsatisfiable, ambiguous, UnsatisfiableAt, AmbiguousAt}
+use Rattle.meaning.specs.Expression.{Literal, wire, wire-store, store, Letter, field, Exp, letter, seq, alt, star, pipe, letters, size, rows, renumbered, Ordered}
+use Rattle.meaning.specs.Shape.{wireHolds, meetsWires, Unsatisfiable, Together, Sized, SizedLetters, AllRead, Shape, accepted, turned-away, shape, unsatisfiable, ambiguous, UnsatisfiableAt, AmbiguousAt}
 use Rattle.meaning.specs.Reading.{Program, read}
 use Rattle.meaning.specs.Opening
 use Rattle.meaning.specs.Opening.{Opened, opened, tooLong, misshapen, openProgram, openText}
@@ -21,7 +24,7 @@ use Rattle.meaning.proofs.Numbering.{renumbered-size, renumbered-rows, 
 use Rattle.meaning.proofs.RowCount.{rows-below-1024}
 use Rattle.meaning.proofs.Rules.{unsatisfiable-at, ambiguous-at}
 use Rattle.meaning.proofs.Calls.{calls-right}
-use Rattle.meaning.proofs.Sizes.{Each, SizedExp, read-sized}
+use Rattle.meaning.proofs.Within.{Each, Within, ExpWithin, read-within}
 
 -- ---- accepted: nothing was wrong
 
@@ -114,38 +117,97 @@ module _ (text : List ℕ) (o : Opened) (e : openText text ≡ value o) where
   pub machine-right : (ws : List ℕ) → machineReplies (o .monitors) (o .first) (o .wires) ws ≡ replies (o .monitors) (o .first) (o .wires) ws
   machine-right ws = calls-right (o .monitors) all-read (o .first) (o .wires) ws
 
--- ---- rules 9 and 12 of an accepted or refused program are those of words
-
-renumbered-sized : (k : ℕ) (e : Exp) → SizedExp e → SizedExp (renumbered k e)
-unfolding renumbered
-renumbered-sized k (letter l) g = g
-renumbered-sized k (seq e f) (g, h) = (renumbered-sized k e g, renumbered-sized (k + size e) f h)
-renumbered-sized k (alt e f) (g, h) = (renumbered-sized k e g, renumbered-sized (k + size e) f h)
-renumbered-sized k (star e) g = renumbered-sized k e g
-renumbered-sized k (pipe e f) (g, h) = (renumbered-sized k e g, renumbered-sized (k + size e) f h)
+-- ---- rules 9 and 12 of a program that reading gives are those of words
 
 each-in : {A : Type 0} (P : A → Type 0) (xs : List A) → Each P xs → (x : A) → x ∈ xs → P x
 each-in P [] g x i = absurd (no-∈ i)
 each-in P (y ∷ ys) (g, gs) x i = ⊎-elim (λ p. subst P (sym p) g) (λ j. each-in P ys gs x j) (cons-∈ i)
 
-letters-sized : (e : Exp) → SizedExp e → SizedLetters e
-unfolding letters
-letters-sized (letter x) g l i = each-in Sized (l .literals) (subst (λ y. Each Sized (y .literals)) (sym (one-∈ i)) g)
-letters-sized (seq e f) (g, h) l i = ⊎-elim (λ j. letters-sized e g l j) (λ j. letters-sized f h l j) (append-∈ (letters e) i)
-letters-sized (alt e f) (g, h) l i = ⊎-elim (λ j. letters-sized e g l j) (λ j. letters-sized f h l j) (append-∈ (letters e) i)
-letters-sized (star e) g l i = letters-sized e g l i
-letters-sized (pipe e f) (g, h) l i = ⊎-elim (λ j. letters-sized e g l j) (λ j. letters-sized f h l j) (append-∈ (letters e) i)
+module _ (n k : ℕ) where
+  renumbered-within : (i : ℕ) (e : Exp) → ExpWithin n k e → ExpWithin n k (renumbered i e)
+  unfolding renumbered
+  renumbered-within i (letter l) g = g
+  renumbered-within i (seq e f) (g, h) = (renumbered-within i e g, renumbered-within (i + size e) f h)
+  renumbered-within i (alt e f) (g, h) = (renumbered-within i e g, renumbered-within (i + size e) f h)
+  renumbered-within i (star e) g = renumbered-within i e g
+  renumbered-within i (pipe e f) (g, h) = (renumbered-within i e g, renumbered-within (i + size e) f h)
+
+  letters-within : (e : Exp) → ExpWithin n k e → (l : Letter) → l ∈ letters e → Each (Within n k) (l .literals)
+  unfolding letters
+  letters-within (letter x) (g, h) l i = subst (λ y. Each (Within n k) (y .literals)) (sym (one-∈ i)) g
+  letters-within (seq e f) (g, h) l i = ⊎-elim (λ j. letters-within e g l j) (λ j. letters-within f h l j) (append-∈ (letters e) i)
+  letters-within (alt e f) (g, h) l i = ⊎-elim (λ j. letters-within e g l j) (λ j. letters-within f h l j) (append-∈ (letters e) i)
+  letters-within (star e) g l i = letters-within e g l i
+  letters-within (pipe e f) (g, h) l i = ⊎-elim (λ j. letters-within e g l j) (λ j. letters-within f h l j) (append-∈ (letters e) i)
+
+  sized-if : n ≤ 64 → (x : Literal) → Within n k x → Sized x
+  sized-if b (wire lo w v) (g, h) = (g, omega arith)
+  sized-if b (wire-store lo w s) g = tt
+  sized-if b (store s v) g = tt
+
+  -- a word's wires are all that a literal within them sees
+  field-cut : (lo width w : ℕ) → lo + width ≤ n → field lo width (w % 2 ^ n) ≡ field lo width w
+  field-cut lo width w h =
+      let (d, e) = le-dest h in
+      let f : n ≡ (d + width) + lo = omega (arith, e) in
+      rw f (ap (λ (x : ℕ). x % 2 ^ width) (slice w (d + width) lo) ∙ mod-mod-pow (w / 2 ^ lo) d width)
+
+  cut : (w : ℕ) (x : Literal) → Within n k x → wireHolds (w % 2 ^ n) x ≡ wireHolds w x
+  cut w (wire lo width v) (g, h) = ap (λ (z : ℕ). eqb z v) (field-cut lo width w h)
+  cut w (wire-store lo width s) g = refl
+  cut w (store s v) g = refl
+
+  cut-all : (w : ℕ) (ls : List Literal) → Each (Within n k) ls → all (wireHolds (w % 2 ^ n)) ls ≡ all (wireHolds w) ls
+  cut-all w [] g = refl
+  cut-all w (x ∷ ls) (g, gs) = rw (cut w x g, cut-all w ls gs)
+
+  module _ (bits : n ≤ 64) (x : Letter) (inside : Each (Within n k) (x .literals)) where
+    meets-cut : (w : ℕ) → T (meetsWires x w) → T (meetsWires x (w % 2 ^ n))
+    unfolding meetsWires
+    meets-cut w t = subst T (sym (cut-all w (x .literals) inside)) t
+
+    below : (w : ℕ) → w < 2 ^ n → w < 2 ^ 64
+    below w h = lt-of-lt-of-le h (pow-mono {j = 64} bits)
+
+    -- "no word": it is enough to ask the words that the watch takes
+    pub no-word : Unsatisfiable x ↔ ((w : ℕ) → w < 2 ^ n → T (meetsWires x w) → ⊥)
+    no-word = (λ u w h t. u w (below w h) t, λ u w h t. u (w % 2 ^ n) (mod-lt w (pow-pos n)) (meets-cut w t))
 
 module _ (text : List ℕ) (p : Program) (e : read text ≡ value p) (m : Exp) (i : m ∈ map (renumbered 0) (p .monitors)) where
-  sized : SizedLetters m
-  sized =
-      let (d, j, q) = map-∈ (renumbered 0) (p .monitors) i in
-      letters-sized m (subst SizedExp q (renumbered-sized 0 d (each-in SizedExp (p .monitors) (read-sized text p e) d j)))
+  n : ℕ
+  n = p .wires
 
-  -- a letter of a monitor is at fault for 9 exactly where no word meets its wire literals
-  pub rule-9 : (n : ℕ) → n ∈ unsatisfiable m ↔ UnsatisfiableAt m n
-  rule-9 n = unsatisfiable-at m sized n
+  k : ℕ
+  k = length (p .first)
+
+  -- the program lies within its wires and stores
+  within : (l : Letter) → l ∈ letters m → Each (Within n k) (l .literals)
+  unfolding n k
+  within l j =
+      let (d, r, q) = map-∈ (renumbered 0) (p .monitors) i in
+      letters-within n k m (subst (ExpWithin n k) q (renumbered-within n k 0 d (each-in (ExpWithin n k) (p .monitors) (read-within text p e .1) d r))) l j
+
+  sized : SizedLetters m
+  unfolding n k
+  sized l j x r = sized-if n k (read-within text p e .0) x (each-in (Within n k) (l .literals) (within l j) x r)
+
+  -- a letter of a monitor is at fault for 9 exactly where no word of the text's wires meets its wire literals
+  pub rule-9 : (a : ℕ) → a ∈ unsatisfiable m ↔ UnsatisfiableAt m a
+  rule-9 a = unsatisfiable-at m sized a
+
+  pub rule-9-words : (l : Letter) → l ∈ letters m → Unsatisfiable l ↔ ((w : ℕ) → w < 2 ^ p .wires → T (meetsWires l w) → ⊥)
+  unfolding n k
+  rule-9-words l j = no-word n k (read-within text p e .0) l (within l j)
 
   -- and for 12 exactly where one word meets its wire literals and those of another letter side by side with it
-  pub rule-12 : (n : ℕ) → n ∈ ambiguous m ↔ AmbiguousAt m n
-  rule-12 n = ambiguous-at m sized n
+  pub rule-12 : (a : ℕ) → a ∈ ambiguous m ↔ AmbiguousAt m a
+  rule-12 a = ambiguous-at m sized a
+
+  pub rule-12-words : (x y : Letter) → x ∈ letters m → y ∈ letters m
+      → Together x y ↔ ((w : ℕ) × (w < 2 ^ p .wires) × T (meetsWires x w) × T (meetsWires y w))
+  unfolding n k
+  rule-12-words x y a b =
+      let bits = read-within text p e .0 in (
+        λ (w, h, s, t). (w % 2 ^ n, mod-lt w (pow-pos n), meets-cut n k bits x (within x a) w s, meets-cut n k bits y (within y b) w t),
+        λ (w, h, s, t). (w, below n k bits x (within x a) w h, s, t),
+      )
