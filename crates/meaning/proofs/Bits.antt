@@ -39,7 +39,7 @@ bit-zero : (w : ℕ) → bit 0 w ≡ w % 2
 bit-zero w = ap (λ x. x % 2) (div-one w)
 
 -- numbers of k bits are equal if their bits are
-same-bits : (k a b : ℕ) → a < 2 ^ k → b < 2 ^ k → ((j : ℕ) → j < k → bit j a ≡ bit j b) → a ≡ b
+pub same-bits : (k a b : ℕ) → a < 2 ^ k → b < 2 ^ k → ((j : ℕ) → j < k → bit j a ≡ bit j b) → a ≡ b
 same-bits zero a b p q h = omega arith
 same-bits (suc k) a b p q h =
     let halves : a / 2 ≡ b / 2 = same-bits k (a / 2) (b / 2) (omega (arith, pow-suc 2 k)) (omega (arith, pow-suc 2 k))
@@ -78,7 +78,7 @@ bit-word f (suc n) (suc i) h =
 
 -- ---- a word that meets them: they agree ----
 
-asked-bit : (w i b : ℕ) (l : Literal) → T (wireHolds w l) → T (asks i b l) → bit i w ≡ b
+pub asked-bit : (w i b : ℕ) (l : Literal) → T (wireHolds w l) → T (asks i b l) → bit i w ≡ b
 asked-bit w i b (wire lo width v) h a =
     let (c, e) = and-T (leb lo i && ltb i (lo + width)) (eqb (bit (i - lo) v) b) a in
     let (p, q) = and-T (leb lo i) (ltb i (lo + width)) c in
@@ -101,7 +101,7 @@ agree-if w ls h = all-from (λ i. not (any (asks i 0) ls && any (asks i 1) ls)) 
     let f : bit i w ≡ 1 = asked-bit w i 1 y (all-at (wireHolds w) iy h) ay in
     omega arith))
 
-all-append : {A : Type 0} (p : A → Bool) (xs ys : List A) → T (all p xs) → T (all p ys) → T (all p (xs ++ ys))
+pub all-append : {A : Type 0} (p : A → Bool) (xs ys : List A) → T (all p xs) → T (all p ys) → T (all p (xs ++ ys))
 all-append p xs ys h k = all-from p (xs ++ ys) (λ x i. ⊎-elim (λ j. all-at p j h) (λ j. all-at p j k) (append-∈ xs i))
 
 -- any word, of 64 bits or not, that meets both
@@ -111,14 +111,14 @@ meets-together x y w p q = agree-if w (x .literals ++ y .literals) (all-append (
 
 -- ---- they agree: the word with the bits asked for meets them ----
 
-in-below : (n i : ℕ) → i < n → i ∈ below n
+pub in-below : (n i : ℕ) → i < n → i ∈ below n
 in-below zero i h = absurd (omega arith)
 in-below (suc n) i h = elim (decLt i n) [ yes l ↦ there (in-below n i l) | no g ↦ at-last (omega arith) ]
   where
     at-last : i ≡ n → i ∈ n ∷ below n
     at-last e = here e
 
-digit-is : (k b : ℕ) (ls : List Literal) → b < 2 → T (any (asks k b) ls) → T (not (any (asks k 0) ls && any (asks k 1) ls)) → cond (any (asks k 1) ls) 1 0 ≡ b
+pub digit-is : (k b : ℕ) (ls : List Literal) → b < 2 → T (any (asks k b) ls) → T (not (any (asks k 0) ls && any (asks k 1) ls)) → cond (any (asks k 1) ls) 1 0 ≡ b
 digit-is k zero ls h t n = low (any (asks k 0) ls) (any (asks k 1) ls) t n
   where
     low : (a c : Bool) → T a → T (not (a && c)) → _≡_ {A = ℕ} (cond c 1 0) 0
@@ -132,7 +132,7 @@ digit-is k (suc zero) ls h t n = high (any (asks k 1) ls) t
     high false t = absurd t
 digit-is k (suc (suc b)) ls h t n = absurd (omega arith)
 
-asks-own : (lo width v j : ℕ) → j < width → T (asks (lo + j) (bit j v) (wire lo width v))
+pub asks-own : (lo width v j : ℕ) → j < width → T (asks (lo + j) (bit j v) (wire lo width v))
 asks-own lo width v j h =
     T-and (leb lo (lo + j) && ltb (lo + j) (lo + width)) (eqb (bit (lo + j - lo) v) (bit j v))
     (T-and (leb lo (lo + j)) (ltb (lo + j) (lo + width)) (le→leb lo (lo + j) (omega arith)) (lt→ltb (lo + j) (lo + width) (omega arith)))

@@ -7,6 +7,7 @@ pub mod Monitor
 pub mod Sets
 pub mod Watch
 pub mod Bits
+pub mod Masks
 pub mod Numbering
 pub mod Rules
 pub mod Accept

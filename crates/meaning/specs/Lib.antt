@@ -9,5 +9,6 @@ pub mod Fit
 pub mod Calls
 pub mod Positions
 pub mod Table
+pub mod Masks
 pub mod Sheet
 pub mod Examples

@@ -1,0 +1,317 @@
+-- Masks are right: for literals that agree, a word passes their masks exactly where it meets them all, and two such lists agree together exactly where their masks are compatible.
+-- Bit by bit. Assumes nothing.
+use mathlib.Core.List.{List, [], _∷_, _++_}
+use mathlib.Core.Bool.{Bool, true, false, not, cond, _&&_, _||_}
+use mathlib.Core.Path.{_≡_, refl, sym, ap, ap₂, _∙_, subst}
+use mathlib.Core.Logic.{_⊎_, inl, inr, ⊎-elim, _↔_}
+use Prim.Native.Nat.{ℕ, zero, suc, _+_, _*_, _-_, _/_, _%_, _^_, _≤_, _<_}
+use native.Mathlib.Omega.{arith}
+use native.Mathlib.Nat.{add-comm, mod-lt, pow-suc, mul-assoc, lt-of-le-of-lt, lt-of-lt-of-le, div-eq-of-lt, eq-or-lt-of-le, le-dest}
+use native.Mathlib.Decide.{decLt}
+use lib.Dec.{T, eqb, leb, ltb, eqb→eq, eqb-refl, leb→le, ltb→lt}
+use lib.Bits.{bitAnd, bitOr, bitXor, and-shr, or-shr, xor-shr, and-mod, or-mod, xor-mod, and-le-r, or-lt, or-comm, shifted-even}
+use lib.Pow.{pow-pos, pow-mono, pow-add, shr-shr, shl-shr, shl-lt, ones-split, ones-lt, high}
+use borrow.Author.Tests.{le-leb, lt-leb, lt-ltb, le-ltb}
+use Rattle.meaning.specs.Lists.{_∈_, any, all}
+use Rattle.meaning.specs.Expression.{Literal, wire, wire-store, store, field}
+use Rattle.meaning.specs.Shape.{bit, asks, agree, wireHolds, Sized, AllSized}
+use Rattle.meaning.proofs.ListLaws.{here, there, cons-∈, no-∈, append-∈, ∈-left, ∈-right, and-T, all-at, all-from, any-from, any-to}
+use Rattle.meaning.proofs.Bits.{agree-if, all-append, met-if, bit-field, same-bits, asked-bit, digit-is, asks-own, in-below}
+use Rattle.meaning.specs.Masks.{lookOf, wantOf, look, want, passes, compatible}
+
+-- ---- operations bit by bit
+
+bit-and : (i a b : ℕ) → bit i (bitAnd a b) ≡ bitAnd (bit i a) (bit i b)
+bit-and i a b = ap (λ (x : ℕ). x % 2) (and-shr a b i) ∙ and-mod (a / 2 ^ i) (b / 2 ^ i) 1
+
+bit-or : (i a b : ℕ) → bit i (bitOr a b) ≡ bitOr (bit i a) (bit i b)
+bit-or i a b = ap (λ (x : ℕ). x % 2) (or-shr a b i) ∙ or-mod (a / 2 ^ i) (b / 2 ^ i) 1
+
+bit-xor : (i a b : ℕ) → bit i (bitXor a b) ≡ bitXor (bit i a) (bit i b)
+bit-xor i a b = ap (λ (x : ℕ). x % 2) (xor-shr a b i) ∙ xor-mod (a / 2 ^ i) (b / 2 ^ i) 1
+
+bit-lt : (i a : ℕ) → bit i a < 2
+bit-lt i a = mod-lt (a / 2 ^ i) (omega arith)
+
+-- what was shifted up by lo has nothing below lo, and its own bits above
+bit-below : (i lo v : ℕ) → i < lo → bit i (v * 2 ^ lo) ≡ 0
+bit-below i lo v h =
+    let (d, e) = le-dest h in
+    let f : lo ≡ suc d + i = omega (arith, e) in
+    rw (f, pow-add 2 (suc d) i, ← mul-assoc, shl-shr) (shifted-even v d)
+
+bit-above : (i lo v : ℕ) → bit (lo + i) (v * 2 ^ lo) ≡ bit i v
+bit-above i lo v = ap (λ (x : ℕ). x % 2) (sym (shr-shr (v * 2 ^ lo) lo i) ∙ ap (λ (x : ℕ). x / 2 ^ i) (shl-shr v lo))
+
+-- a number below 2 ^ w has no bits from w on, and of 2 ^ w - 1 all bits below w stand
+bit-over : (i w v : ℕ) → v < 2 ^ w → w ≤ i → bit i v ≡ 0
+bit-over i w v h k = ap (λ (x : ℕ). x % 2) (div-eq-of-lt (lt-of-lt-of-le h (pow-mono k)))
+
+odd-ones : (d : ℕ) → (2 ^ suc d - 1) % 2 ≡ 1
+odd-ones d = rw (pow-suc 2 d) (omega (arith, pow-pos d))
+
+bit-ones : (j w : ℕ) → j < w → bit j (2 ^ w - 1) ≡ 1
+bit-ones j w h =
+    let (d, e) = le-dest h in
+    let f : w ≡ suc d + j = omega (arith, e) in
+    rw (f, ones-split (suc d) j, high (2 ^ suc d - 1) j (ones-lt j)) (odd-ones d)
+
+zero-bit : (i : ℕ) → bit i 0 ≡ 0
+zero-bit i = bit-over i 0 0 (omega arith) (omega arith)
+
+-- ---- single bits
+
+data Bit : ℕ → Type 0 where
+  off : Bit 0
+  on : Bit 1
+
+is-bit : (x : ℕ) → x < 2 → Bit x
+is-bit zero h = off
+is-bit (suc zero) h = on
+is-bit (suc (suc x)) h = absurd (omega arith)
+
+bit-is : (i a : ℕ) → Bit (bit i a)
+bit-is i a = is-bit (bit i a) (bit-lt i a)
+
+differ : _≡_ {A = ℕ} 0 1 → ⊥
+differ e = omega arith
+
+-- x and y are alike, or nobody looks
+alike-if : {x y a : ℕ} → Bit x → Bit y → Bit a → (a ≡ 1 → x ≡ y) → bitAnd (bitXor x y) a ≡ 0
+alike-if off off off h = refl
+alike-if off off on h = refl
+alike-if off on off h = refl
+alike-if off on on h = absurd (differ (h refl))
+alike-if on off off h = refl
+alike-if on off on h = absurd (differ (sym (h refl)))
+alike-if on on off h = refl
+alike-if on on on h = refl
+
+alike-then : {x y : ℕ} → Bit x → Bit y → bitAnd (bitXor x y) 1 ≡ 0 → x ≡ y
+alike-then off off e = refl
+alike-then off on e = absurd (differ (sym e))
+alike-then on off e = absurd (differ (sym e))
+alike-then on on e = refl
+
+or-left : {x y : ℕ} → Bit y → x ≡ 1 → bitOr x y ≡ 1
+or-left off e = rw e
+or-left on e = rw e
+
+or-right : {x y : ℕ} → Bit x → y ≡ 1 → bitOr x y ≡ 1
+or-right off e = rw e
+or-right on e = rw e
+
+or-cases : {x y : ℕ} → Bit x → Bit y → bitOr x y ≡ 1 → (x ≡ 1) ⊎ (y ≡ 1)
+or-cases off off e = absurd (differ e)
+or-cases off on e = inr refl
+or-cases on b e = inl refl
+
+-- ---- a word passes where each wire looked at has the value wanted
+
+module _ (a b w : ℕ) (small : a < 2 ^ 64) where
+  pub passes-then : T (passes a b w) → (i : ℕ) → bit i a ≡ 1 → bit i w ≡ bit i b
+  unfolding passes
+  passes-then t i h =
+      let e : bitAnd (bitXor w b) a ≡ 0 = eqb→eq (bitAnd (bitXor w b) a) 0 t in
+      alike-then (bit-is i w) (bit-is i b)
+      (sym (ap₂ bitAnd (bit-xor i w b) h) ∙ sym (bit-and i (bitXor w b) a) ∙ ap (bit i) e ∙ zero-bit i)
+
+  pub passes-if : ((i : ℕ) → i < 64 → bit i a ≡ 1 → bit i w ≡ bit i b) → T (passes a b w)
+  unfolding passes
+  passes-if h =
+      let same : bitAnd (bitXor w b) a ≡ 0
+        = same-bits 64 (bitAnd (bitXor w b) a) 0 (lt-of-le-of-lt (and-le-r (bitXor w b) a) small) (pow-pos 64)
+        (λ i l. bit-and i (bitXor w b) a ∙ ap (λ (x : ℕ). bitAnd x (bit i a)) (bit-xor i w b)
+        ∙ alike-if (bit-is i w) (bit-is i b) (bit-is i a) (h i l) ∙ sym (zero-bit i)) in
+      subst (λ (x : ℕ). T (eqb x 0)) (sym same) (eqb-refl 0)
+
+-- ---- the masks of literals, bit by bit
+
+-- i lies in a field, by its distance from the lowest bit
+in-field : (i lo width : ℕ) → (i < lo) ⊎ ((j : ℕ) × (i ≡ lo + j) × ((j < width) ⊎ (width ≤ j)))
+in-field i lo width = elim (decLt i lo) [ yes l ↦ inl l | no g ↦ inr (i - lo, omega arith, above (i - lo)) ]
+  where
+    above : (j : ℕ) → (j < width) ⊎ (width ≤ j)
+    above j = elim (decLt j width) [ yes l ↦ inl l | no g ↦ inr (omega arith) ]
+
+-- a literal looks at a wire exactly where it asks for one of the two values there
+asks-some : (i : ℕ) (l : Literal) → bit i (lookOf l) ≡ 1 → (b : ℕ) × (b < 2) × T (asks i b l)
+asks-some i (wire lo width v) h =
+    ⊎-elim (λ l. absurd (differ (sym (bit-below i lo (2 ^ width - 1) l) ∙ h)))
+    (λ (j, e, c). ⊎-elim (λ l. (bit j v, bit-lt j v, subst (λ (k : ℕ). T (asks k (bit j v) (wire lo width v))) (sym e) (asks-own lo width v j l)))
+    (λ l. absurd (differ (sym (bit-over j width (2 ^ width - 1) (ones-lt width) l) ∙ sym (bit-above j lo (2 ^ width - 1)) ∙ ap (λ (k : ℕ). bit k ((2 ^ width - 1) * 2 ^ lo)) (sym e) ∙ h))) c)
+    (in-field i lo width)
+asks-some i (wire-store lo width s) h = absurd (differ (sym (zero-bit i) ∙ h))
+asks-some i (store s v) h = absurd (differ (sym (zero-bit i) ∙ h))
+
+looks-own : (lo width v j : ℕ) → j < width → bit (lo + j) (lookOf (wire lo width v)) ≡ 1
+looks-own lo width v j h = bit-above j lo (2 ^ width - 1) ∙ bit-ones j width h
+
+as-digit : {x : ℕ} → Bit x → cond (eqb x 1) 1 0 ≡ x
+as-digit off = refl
+as-digit on = refl
+
+-- the value wanted of wire i is 1 exactly where the literal asks for 1 there
+wants-one : (i : ℕ) (l : Literal) → Sized l → bit i (wantOf l) ≡ cond (asks i 1 l) 1 0
+wants-one i (wire lo width v) (fits, within) =
+    ⊎-elim (λ l. bit-below i lo v l ∙ sym (rw (lt-leb lo i l)))
+    (λ (j, e, c).
+    let back : lo + j - lo ≡ j = omega arith in
+    rw e (bit-above j lo v ∙ ⊎-elim
+    (λ l. sym (rw (le-leb lo (lo + j) (omega arith), lt-ltb (lo + j) (lo + width) (omega arith), back) (as-digit (bit-is j v))))
+    (λ l. bit-over j width v fits l ∙ sym (rw (le-leb lo (lo + j) (omega arith), le-ltb (lo + j) (lo + width) (omega arith)))) c))
+    (in-field i lo width)
+wants-one i (wire-store lo width s) z = zero-bit i
+wants-one i (store s v) z = zero-bit i
+
+or-digits : (a b : Bool) → bitOr (cond a 1 0) (cond b 1 0) ≡ cond (a || b) 1 0
+or-digits true true = refl
+or-digits true false = refl
+or-digits false true = refl
+or-digits false false = refl
+
+want-bit : (i : ℕ) (ls : List Literal) → AllSized ls → bit i (want ls) ≡ cond (any (asks i 1) ls) 1 0
+unfolding want
+want-bit i [] sized = zero-bit i
+want-bit i (l ∷ ls) sized =
+    bit-or i (wantOf l) (want ls) ∙ ap₂ bitOr (wants-one i l (sized l (here refl))) (want-bit i ls (λ x j. sized x (there j)))
+    ∙ or-digits (asks i 1 l) (any (asks i 1) ls)
+
+look-some : (i : ℕ) (ls : List Literal) → bit i (look ls) ≡ 1 → (b : ℕ) × (b < 2) × (l : Literal) × (l ∈ ls) × T (asks i b l)
+unfolding look
+look-some i [] h = absurd (differ (sym (zero-bit i) ∙ h))
+look-some i (l ∷ ls) h =
+    ⊎-elim (λ e. let (b, d, t) = asks-some i l e in (b, d, l, here refl, t))
+    (λ e. let (b, d, x, j, t) = look-some i ls e in (b, d, x, there j, t))
+    (or-cases (bit-is i (lookOf l)) (bit-is i (look ls)) (sym (bit-or i (lookOf l) (look ls)) ∙ h))
+
+look-at : (i : ℕ) (ls : List Literal) (l : Literal) → l ∈ ls → bit i (lookOf l) ≡ 1 → bit i (look ls) ≡ 1
+unfolding look
+look-at i [] l j h = absurd (no-∈ j)
+look-at i (x ∷ ls) l j h =
+    bit-or i (lookOf x) (look ls)
+    ∙ ⊎-elim (λ e. or-left (bit-is i (look ls)) (ap (λ y. bit i (lookOf y)) (sym e) ∙ h))
+    (λ k. or-right (bit-is i (lookOf x)) (look-at i ls l k h)) (cons-∈ j)
+
+look-of-small : (l : Literal) → Sized l → lookOf l < 2 ^ 64
+look-of-small (wire lo width v) (p, q) = lt-of-lt-of-le (shl-lt width lo (ones-lt width)) (pow-mono (subst (λ (k : ℕ). k ≤ 64) (add-comm lo width) q))
+look-of-small (wire-store lo width s) z = pow-pos 64
+look-of-small (store s v) z = pow-pos 64
+
+pub look-small : (ls : List Literal) → AllSized ls → look ls < 2 ^ 64
+unfolding look
+look-small [] sized = pow-pos 64
+look-small (l ∷ ls) sized = or-lt 64 (lookOf l) (look ls) (look-of-small l (sized l (here refl))) (look-small ls (λ x j. sized x (there j)))
+
+-- ---- literals that agree
+
+module _ (ls : List Literal) (sized : AllSized ls) (agreed : T (agree ls)) where
+  -- what one of them asks for is what is wanted
+  asked-wanted : (i b : ℕ) (l : Literal) → i < 64 → b < 2 → l ∈ ls → T (asks i b l) → bit i (want ls) ≡ b
+  unfolding agree
+  asked-wanted i b l h d j t =
+      want-bit i ls sized
+      ∙ digit-is i b ls d (any-from (asks i b) j t) (all-at (λ k. not (any (asks k 0) ls && any (asks k 1) ls)) (in-below 64 i h) agreed)
+
+  -- A word that meets them all passes their masks.
+  pub meets-passes : (w : ℕ) → T (all (wireHolds w) ls) → T (passes (look ls) (want ls) w)
+  meets-passes w h =
+      passes-if (look ls) (want ls) w (look-small ls sized) (λ i l e.
+      let (b, d, x, j, t) = look-some i ls e in
+      asked-bit w i b x (all-at (wireHolds w) j h) t ∙ sym (asked-wanted i b x l d j t))
+
+  -- And a word that passes meets them all.
+  pub passes-meets : (w : ℕ) → T (passes (look ls) (want ls) w) → T (all (wireHolds w) ls)
+  passes-meets w h = all-from (wireHolds w) ls (λ l j. one l j (sized l j))
+    where
+      one : (l : Literal) → l ∈ ls → Sized l → T (wireHolds w l)
+      one (wire lo width v) j (p, q) =
+          subst (λ (z : ℕ). T (eqb (field lo width w) z))
+          (same-bits width (field lo width w) v (mod-lt (w / 2 ^ lo) (pow-pos width)) p (λ k l.
+          bit-field lo width w k l
+          ∙ passes-then (look ls) (want ls) w (look-small ls sized) h (lo + k) (look-at (lo + k) ls (wire lo width v) j (looks-own lo width v k l))
+          ∙ asked-wanted (lo + k) (bit k v) (wire lo width v) (omega arith) (bit-lt k v) j (asks-own lo width v k l)))
+          (eqb-refl (field lo width w))
+      one (wire-store lo width s) j z = tt
+      one (store s v) j z = tt
+
+-- ---- two lists of literals
+
+and-on : {x y : ℕ} → Bit x → Bit y → bitAnd x y ≡ 1 → (x ≡ 1) × (y ≡ 1)
+and-on off off e = absurd (differ e)
+and-on off on e = absurd (differ e)
+and-on on off e = absurd (differ e)
+and-on on on e = (refl, refl)
+
+asks-look : (i b : ℕ) (l : Literal) → T (asks i b l) → bit i (lookOf l) ≡ 1
+asks-look i b (wire lo width v) t =
+    let (c, e) = and-T (leb lo i && ltb i (lo + width)) (eqb (bit (i - lo) v) b) t in
+    let (p, q) = and-T (leb lo i) (ltb i (lo + width)) c in
+    let le : lo ≤ i = leb→le lo i p in
+    let lt : i < lo + width = ltb→lt i (lo + width) q in
+    let back : i ≡ lo + (i - lo) = omega arith in
+    ap (λ (k : ℕ). bit k ((2 ^ width - 1) * 2 ^ lo)) back ∙ looks-own lo width v (i - lo) (omega arith)
+asks-look i b (wire-store lo width s) t = absurd t
+asks-look i b (store s v) t = absurd t
+
+-- nothing is wanted where nobody looks
+want-looks : (i : ℕ) (ls : List Literal) → AllSized ls → bit i (want ls) ≡ 1 → bit i (look ls) ≡ 1
+want-looks i ls sized h = by (any (asks i 1) ls) refl (sym (want-bit i ls sized) ∙ h)
+  where
+    by : (t : Bool) → any (asks i 1) ls ≡ t → _≡_ {A = ℕ} (cond t 1 0) 1 → bit i (look ls) ≡ 1
+    by true e f = let (l, j, a) = any-to (asks i 1) ls (subst T (sym e) tt) in look-at i ls l j (asks-look i 1 l a)
+    by false e f = absurd (differ f)
+
+-- where the other wants nothing new, one's own value stays
+own-value : {x y : ℕ} → Bit x → Bit y → (y ≡ 1 → x ≡ y) → bitOr x y ≡ x
+own-value off off h = refl
+own-value off on h = absurd (differ (h refl))
+own-value on off h = refl
+own-value on on h = refl
+
+module _ (xs ys : List Literal) (sx : AllSized xs) (sy : AllSized ys) (ax : T (agree xs)) (ay : T (agree ys)) where
+  common : ℕ
+  common = bitAnd (look xs) (look ys)
+
+  common-small : common < 2 ^ 64
+  unfolding common
+  common-small = lt-of-le-of-lt (and-le-r (look xs) (look ys)) (look-small ys sy)
+
+  -- Literals that one word meets together have compatible masks.
+  pub agree-compatible : T (agree (xs ++ ys)) → T (compatible (look xs) (want xs) (look ys) (want ys))
+  unfolding common
+  agree-compatible t =
+      let (w, b, h) = met-if (xs ++ ys) (λ l i. ⊎-elim (sx l) (sy l) (append-∈ xs i)) t in
+      let px = meets-passes xs sx ax w (all-from (wireHolds w) xs (λ l i. all-at (wireHolds w) (∈-left ys i) h)) in
+      let py = meets-passes ys sy ay w (all-from (wireHolds w) ys (λ l i. all-at (wireHolds w) (∈-right xs i) h)) in
+      passes-if common (want ys) (want xs) common-small (λ i l e.
+      let (p, q) = and-on (bit-is i (look xs)) (bit-is i (look ys)) (sym (bit-and i (look xs) (look ys)) ∙ e) in
+      sym (passes-then (look xs) (want xs) w (look-small xs sx) px i p) ∙ passes-then (look ys) (want ys) w (look-small ys sy) py i q)
+
+  -- And those with compatible masks are met together: by the word that has all that is wanted.
+  both : ℕ
+  both = bitOr (want xs) (want ys)
+
+  same-wanted : T (compatible (look xs) (want xs) (look ys) (want ys)) → (i : ℕ) → bit i (look xs) ≡ 1 → bit i (look ys) ≡ 1 → bit i (want xs) ≡ bit i (want ys)
+  unfolding common
+  same-wanted t i p q =
+      passes-then common (want ys) (want xs) common-small t i (bit-and i (look xs) (look ys) ∙ ap₂ bitAnd p q)
+
+  passes-left : T (compatible (look xs) (want xs) (look ys) (want ys)) → T (passes (look xs) (want xs) both)
+  unfolding both
+  passes-left t =
+      passes-if (look xs) (want xs) both (look-small xs sx) (λ i l e.
+      bit-or i (want xs) (want ys)
+      ∙ own-value (bit-is i (want xs)) (bit-is i (want ys)) (λ f. same-wanted t i e (want-looks i ys sy f)))
+
+  passes-right : T (compatible (look xs) (want xs) (look ys) (want ys)) → T (passes (look ys) (want ys) both)
+  unfolding both
+  passes-right t =
+      passes-if (look ys) (want ys) both (look-small ys sy) (λ i l e.
+      bit-or i (want xs) (want ys) ∙ or-comm (bit i (want xs)) (bit i (want ys))
+      ∙ own-value (bit-is i (want ys)) (bit-is i (want xs)) (λ f. sym (same-wanted t i (want-looks i xs sx f) e)))
+
+  pub compatible-agree : T (compatible (look xs) (want xs) (look ys) (want ys)) → T (agree (xs ++ ys))
+  compatible-agree t =
+      agree-if both (xs ++ ys)
+      (all-append (wireHolds both) xs ys (passes-meets xs sx ax both (passes-left t)) (passes-meets ys sy ay both (passes-right t)))

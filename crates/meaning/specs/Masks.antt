@@ -1,0 +1,35 @@
+-- The wire literals of a letter as two numbers, which is how code keeps them: the wires looked at, and the values wanted there. Assumes nothing.
+use mathlib.Core.Bool.{Bool}
+use mathlib.Core.List.{List, [], _∷_}
+use Prim.Native.Nat.{ℕ, _*_, _-_, _^_}
+use lib.Dec.{eqb}
+use lib.Bits.{bitAnd, bitOr, bitXor}
+use Rattle.meaning.specs.Expression.{Literal, wire, wire-store, store}
+
+-- the wires that one literal looks at, and their values
+abbrev pub lookOf : Literal → ℕ
+lookOf (wire lo width v) = (2 ^ width - 1) * 2 ^ lo
+lookOf (wire-store lo width s) = 0
+lookOf (store s v) = 0
+
+abbrev pub wantOf : Literal → ℕ
+wantOf (wire lo width v) = v * 2 ^ lo
+wantOf (wire-store lo width s) = 0
+wantOf (store s v) = 0
+
+-- those of all the literals
+unfoldable pub look : List Literal → ℕ
+look [] = 0
+look (l ∷ ls) = bitOr (lookOf l) (look ls)
+
+unfoldable pub want : List Literal → ℕ
+want [] = 0
+want (l ∷ ls) = bitOr (wantOf l) (want ls)
+
+-- each wire looked at has the value wanted
+unfoldable pub passes : (look want word : ℕ) → Bool
+passes a b w = eqb (bitAnd (bitXor w b) a) 0
+
+-- two letters want the same of the wires that both look at
+abbrev pub compatible : (look₁ want₁ look₂ want₂ : ℕ) → Bool
+compatible a b c d = passes (bitAnd a c) d b
