@@ -198,7 +198,7 @@ refusal-kept (t ∷ ts) us ns x number place e = by-step (step ns x t) e (λ ms 
   where
     by-step : (s : Step) → feedOn s (λ ms y. feed ms y ts) ≡ fault number place
         → ((ms : Names) (y : Expect) → feed ms y ts ≡ fault number place → readOn ms y (ts ++ us) ≡ refused number (byte place))
-        → Reading.follow s (λ ms y. readOn ms y (ts ++ us)) ≡ refused number (byte place)
+        → Reading.andThen s (λ ms y. readOn ms y (ts ++ us)) ≡ refused number (byte place)
     by-step (go ms y) e ih = ih ms y e
     by-step (finished p) e ih = clash (cc)
     by-step (fault n q) e ih = cc

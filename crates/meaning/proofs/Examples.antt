@@ -9,7 +9,7 @@ use Rattle.meaning.specs.Fit.{meets, merge, rounds, runs, writeMet, onwa
 use Rattle.meaning.specs.Shape.{nullable, first, last, follow, threads, agree, together, unsatisfiable, parts, nullables, openEnds, ambiguous, shape, meetsWires}
 use Rattle.meaning.specs.Reading.{choose, onName, onNumber, ifName, ifNumber, unless, byKind, known, newName, notHere, atToken, declare, storeTests, literalName, behindOperand, behindLiteral, step, readOn, read}
 use Rattle.meaning.specs.Answers.{value}
-use Rattle.meaning.specs.Opening.{Opened, opened, tooLong, misshapen, openProgram, openText}
+use Rattle.meaning.specs.Opening.{Opened, asOpened, tooLong, misshapen, openProgram, openText}
 use Rattle.meaning.specs.Calls.{reply}
 use Rattle.trace.specs.Record.{digit, number, count, picked, recordOf, differs, changes, written, newByte, merged, idle, readRecord}
 use Rattle.trace.specs.Whole.{writeAll, writeTrace}
@@ -24,7 +24,7 @@ AllHold [] = Unit {0}
 AllHold (x ∷ xs) = Holds x × AllHold xs
 
 pub examples-hold : AllHold examples
-unfolding choose onName onNumber ifName ifNumber unless byKind known newName notHere atToken isWhite isDigit isLetter run same lookup nameToken valueFrom numberToken signToken firstToken nextToken tokenAt tokensFrom tokensAt letters size rows renumbered meets merge rounds runs writeMet onward verdict nullable first last follow threads agree together unsatisfiable parts nullables openEnds ambiguous shape meetsWires declare storeTests literalName behindOperand behindLiteral step readOn read opened tooLong misshapen openProgram openText reply digit number count picked recordOf differs changes written newByte merged idle readRecord writeAll writeTrace sheet tickLines cleanLine countsLine refusalLine line decimal digitsIn hexadecimal
+unfolding choose onName onNumber ifName ifNumber unless byKind known newName notHere atToken isWhite isDigit isLetter run same lookup nameToken valueFrom numberToken signToken firstToken nextToken tokenAt tokensFrom tokensAt letters size rows renumbered meets merge rounds runs writeMet onward verdict nullable first last follow threads agree together unsatisfiable parts nullables openEnds ambiguous shape meetsWires declare storeTests literalName behindOperand behindLiteral step readOn read asOpened tooLong misshapen openProgram openText reply digit number count picked recordOf differs changes written newByte merged idle readRecord writeAll writeTrace sheet tickLines cleanLine countsLine refusalLine line decimal digitsIn hexadecimal
 examples-hold = ((refl, (refl, (refl, (refl, (refl, (refl, (refl, (refl, (refl, (refl, (refl, (refl, (refl, (refl, (refl, (refl, tt)))))))))))))))))
 
 -- the sample's trace is the one that 01 prints

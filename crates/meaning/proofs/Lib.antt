@@ -19,5 +19,8 @@ pub mod Calls
 pub mod Steps
 pub mod Blame
 pub mod Within
+pub mod GrammarReads
+pub mod GrammarDerives
+pub mod GrammarExact
 pub mod Openings
 pub mod Examples

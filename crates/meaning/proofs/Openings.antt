@@ -17,7 +17,7 @@ use Rattle.meaning.specs.Expression.{Literal, wire, wire-store, store, L
 use Rattle.meaning.specs.Shape.{wireHolds, meetsWires, Unsatisfiable, Together, Sized, SizedLetters, AllRead, Shape, accepted, turned-away, shape, unsatisfiable, ambiguous, UnsatisfiableAt, AmbiguousAt}
 use Rattle.meaning.specs.Reading.{Program, read}
 use Rattle.meaning.specs.Opening
-use Rattle.meaning.specs.Opening.{Opened, opened, tooLong, misshapen, openProgram, openText}
+use Rattle.meaning.specs.Opening.{Opened, asOpened, tooLong, misshapen, openProgram, openText}
 use Rattle.meaning.specs.Calls.{replies, machineReplies}
 use Rattle.meaning.proofs.ListLaws.{clash, cons-∈, no-∈, one-∈, map-∈, append-∈}
 use Rattle.meaning.proofs.Numbering.{renumbered-size, renumbered-rows, renumbered-ordered}
@@ -56,16 +56,16 @@ well-shaped i (m ∷ ms) r o e = by (shape m) refl e (λ f. well-shaped (suc i) 
 pub record Accepted (text : List ℕ) (o : Opened) : Type 0 where
   pub program : Program
   pub reads : read text ≡ value program
-  pub opens : opened program ≡ o
+  pub opens : asOpened program ≡ o
   pub few : total size (program .monitors) ≤ 256
   pub shaped : (m : Exp) → m ∈ o .monitors → shape m ≡ accepted
 
 opened-program : (text : List ℕ) (p : Program) (o : Opened) → read text ≡ value p → openProgram p ≡ value o → Accepted text o
 unfolding openProgram
 opened-program text p o q e =
-    let l = not-long 0 0 (p .monitors) (misshapen 0 (opened p .monitors) (value (opened p))) o (omega arith) e in
-    let s = well-shaped 0 (opened p .monitors) (value (opened p)) o (l .1) in
-    let same : opened p ≡ o = cc (s .1) in
+    let l = not-long 0 0 (p .monitors) (misshapen 0 (asOpened p .monitors) (value (asOpened p))) o (omega arith) e in
+    let s = well-shaped 0 (asOpened p .monitors) (value (asOpened p)) o (l .1) in
+    let same : asOpened p ≡ o = cc (s .1) in
     record {
       program = p;
       reads = q;
@@ -94,7 +94,7 @@ module _ (text : List ℕ) (o : Opened) (e : openText text ≡ value o) where
 
   -- its monitors are those of the program, numbered
   numbered : o .monitors ≡ map (renumbered 0) (a .program .monitors)
-  unfolding opened
+  unfolding asOpened
   numbered = sym (ap (λ z. z .monitors) (a .opens))
 
   all-read : AllRead (o .monitors)
@@ -104,7 +104,7 @@ module _ (text : List ℕ) (o : Opened) (e : openText text ≡ value o) where
 
   -- An accepted text has fewer than 1,024 rows.
   pub rows-fit : o .rowCount < 1024
-  unfolding opened
+  unfolding asOpened
   rows-fit =
       let r : o .rowCount ≡ total rows (a .program .monitors) = sym (ap (λ z. z .rowCount) (a .opens)) in
       let s : total rows (o .monitors) ≡ total rows (a .program .monitors)
@@ -114,8 +114,8 @@ module _ (text : List ℕ) (o : Opened) (e : openText text ≡ value o) where
       omega (arith, rows-below-1024 (o .monitors) (a .shaped) (omega (arith, a .few)))
 
   -- The machine of active positions answers every list of calls as the definitions do.
-  pub machine-right : (ws : List ℕ) → machineReplies (o .monitors) (o .first) (o .wires) ws ≡ replies (o .monitors) (o .first) (o .wires) ws
-  machine-right ws = calls-right (o .monitors) all-read (o .first) (o .wires) ws
+  pub machine-right : (ws : List ℕ) → machineReplies (o .monitors) (o .initial) (o .wires) ws ≡ replies (o .monitors) (o .initial) (o .wires) ws
+  machine-right ws = calls-right (o .monitors) all-read (o .initial) (o .wires) ws
 
 -- ---- rules 9 and 12 of a program that reading gives are those of words
 
@@ -178,7 +178,7 @@ module _ (text : List ℕ) (p : Program) (e : read text ≡ value p) (m : Exp) (
   n = p .wires
 
   k : ℕ
-  k = length (p .first)
+  k = length (p .initial)
 
   -- the program lies within its wires and stores
   within : (l : Letter) → l ∈ letters m → Each (Within n k) (l .literals)

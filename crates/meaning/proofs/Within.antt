@@ -64,7 +64,7 @@ MeaningWithin n k (aDefine ls) = Each (Within n k) ls
 MeaningWithin n k (aProduction e) = ExpWithin n k e
 
 abbrev storesOf : Names → ℕ
-storesOf ns = length (ns .first)
+storesOf ns = length (ns .initial)
 
 abbrev NamesWithin : Names → Type 0
 NamesWithin ns = (ns .wires ≤ 64) × Each (λ e. MeaningWithin (ns .wires) (storesOf ns) (e .meaning)) (ns .declared)
@@ -150,7 +150,7 @@ ExpectWithin n k (monitorMore ms) = Each (ExpWithin n k) ms
 ExpectWithin n k (textEnd ms) = Each (ExpWithin n k) ms
 
 abbrev ProgramWithin : Program → Type 0
-ProgramWithin p = (p .wires ≤ 64) × Each (ExpWithin (p .wires) (length (p .first))) (p .monitors)
+ProgramWithin p = (p .wires ≤ 64) × Each (ExpWithin (p .wires) (length (p .initial))) (p .monitors)
 
 abbrev StepWithin : Step → Type 0
 StepWithin (go ns x) = NamesWithin ns × ExpectWithin (ns .wires) (storesOf ns) x
@@ -174,8 +174,8 @@ unfolding declare
 declared-within (newInput s w) ns (b, g) h =
     (h, (le-refl (ns .wires + w), entries-more (ns .wires) (storesOf ns) (ns .wires + w) (storesOf ns) (omega arith) (le-refl _) (ns .declared) g))
 declared-within (newStore s w v) ns (b, g) h =
-    let l : storesOf ns < length (ns .first ++ (v ∷ [])) = rw length-append (omega arith) in
-    (b, (l, entries-more (ns .wires) (storesOf ns) (ns .wires) (length (ns .first ++ (v ∷ []))) (le-refl _) (omega (arith, l)) (ns .declared) g))
+    let l : storesOf ns < length (ns .initial ++ (v ∷ [])) = rw length-append (omega arith) in
+    (b, (l, entries-more (ns .wires) (storesOf ns) (ns .wires) (length (ns .initial ++ (v ∷ []))) (le-refl _) (omega (arith, l)) (ns .declared) g))
 declared-within (newDefine s ls) ns (b, g) h = (b, (h, g))
 declared-within (newProduction s e) ns (b, g) h = (b, (h, g))
 
@@ -352,7 +352,7 @@ unfolding readOn P
 reads-within [] ns x p g h e = clash (cc)
 reads-within (t ∷ ts) ns x p g h e = by-step (step ns x t) (within-step ns g t x h) e (λ ms y k l f. reads-within ts ms y p k l f)
   where
-    by-step : (s : Step) → StepWithin s → Reading.follow s (λ ms y. readOn ms y ts) ≡ value p
+    by-step : (s : Step) → StepWithin s → Reading.andThen s (λ ms y. readOn ms y ts) ≡ value p
         → ((ms : Names) (y : Expect) → NamesWithin ms → ExpectWithin (ms .wires) (storesOf ms) y → readOn ms y ts ≡ value p → ProgramWithin p)
         → ProgramWithin p
     by-step (go ms y) (k, l) f ih = ih ms y k l f

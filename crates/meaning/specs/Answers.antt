@@ -12,7 +12,7 @@ pub data Answer (A : Type 0) : Type 0 where
   value : A → Answer A
   refused : ℕ → Place → Answer A
 
--- 01's numbers for texts, in the order of the table "What is turned away"
+-- 01's numbers and words, in the order of its table. Number 2, knot, is the lexer's own answer; 13, 14 and 18 are those of records.
 abbrev pub overlong : ℕ
 overlong = 1
 
@@ -33,3 +33,24 @@ crowded = 7
 
 abbrev pub longRun : ℕ
 longRun = 8
+
+abbrev pub impossible : ℕ
+impossible = 9
+
+abbrev pub hollow : ℕ
+hollow = 10
+
+abbrev pub openEnd : ℕ
+openEnd = 11
+
+abbrev pub fork : ℕ
+fork = 12
+
+abbrev pub stray : ℕ
+stray = 15
+
+abbrev pub stopped : ℕ
+stopped = 16
+
+abbrev pub full : ℕ
+full = 17

@@ -7,6 +7,7 @@ use Prim.Native.Nat.{ℕ, suc, _^_, _≤_, _<_}
 use lib.Dec.{T, leb}
 use lib.ListN.{length, take, getD}
 use Rattle.meaning.specs.Lists.{any, count, only}
+use Rattle.meaning.specs.Answers as answers
 use Rattle.meaning.specs.Expression.{Exp}
 use Rattle.meaning.specs.Fit.{Verdict, ok as clean, bad as broken, start, onward, history, judged}
 use Rattle.meaning.specs.Positions.{opened, answer, moved}
@@ -47,9 +48,9 @@ module _ {S : Type 0} where
   -- ok or bad." The state holds just what this asks of the earlier calls: only ok adds to oks, and only bad sets stopped.
   unfoldable pub reply : (judge : S → ℕ → Verdict) (wires : ℕ) → State S → ℕ → Reply
   reply judge wires s w =
-      cond (s .stopped) (refused 16)
-      (cond (isFull (s .oks)) (refused 17)
-      (cond (isStray wires w) (refused 15)
+      cond (s .stopped) (refused answers.stopped)
+      (cond (isFull (s .oks)) (refused answers.full)
+      (cond (isStray wires w) (refused answers.stray)
       (replyOf (judge (s .inner) w))))
 
   -- "The words are those of the calls not refused, in order": an ok call's word is moved by. After a bad one "the watch is

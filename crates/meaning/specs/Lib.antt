@@ -3,6 +3,7 @@ pub mod Lists
 pub mod Answers
 pub mod Expression
 pub mod Reading
+pub mod Grammar
 pub mod Shape
 pub mod Opening
 pub mod Fit

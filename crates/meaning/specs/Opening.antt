@@ -12,15 +12,15 @@ use Rattle.meaning.specs.Reading.{Program, read}
 -- What opening answers with: the program, its letters numbered from 0 within each monitor in reading order, and both counts.
 pub record Opened : Type 0 where
   pub wires : ℕ
-  pub first : List ℕ
+  pub initial : List ℕ
   pub monitors : List Exp
   pub rowCount : ℕ
   pub letterCount : ℕ
 
-unfoldable pub opened : Program → Opened
-opened p = record {
+unfoldable pub asOpened : Program → Opened
+asOpened p = record {
   wires = p .wires;
-  first = p .first;
+  initial = p .initial;
   monitors = map (renumbered 0) (p .monitors);
   rowCount = total rows (p .monitors);
   letterCount = total size (p .monitors);
@@ -42,7 +42,7 @@ misshapen i (m ∷ ms) otherwise = byShape i (shape m) (misshapen (suc i) ms oth
 
 -- a program is opened, or the first thing wrong with it
 unfoldable pub openProgram : Program → Answer Opened
-openProgram p = let o = opened p in tooLong 0 0 (p .monitors) (misshapen 0 (o .monitors) (value o))
+openProgram p = let o = asOpened p in tooLong 0 0 (p .monitors) (misshapen 0 (o .monitors) (value o))
 
 abbrev pub andOpen : Answer Program → Answer Opened
 andOpen (value p) = openProgram p

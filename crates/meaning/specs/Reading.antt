@@ -28,14 +28,14 @@ pub record Names : Type 0 where
   -- how many wires of the word are taken
   pub wires : ℕ
   -- the first values of the stores
-  pub first : List ℕ
+  pub initial : List ℕ
 
 abbrev pub noNames : Names
-noNames = record { declared = []; wires = 0; first = [] }
+noNames = record { declared = []; wires = 0; initial = [] }
 
 pub data Declaration : Type 0 where
   newInput : List ℕ → (width : ℕ) → Declaration
-  newStore : List ℕ → (width first : ℕ) → Declaration
+  newStore : List ℕ → (width initial : ℕ) → Declaration
   newDefine : List ℕ → List Literal → Declaration
   newProduction : List ℕ → Exp → Declaration
 
@@ -45,11 +45,11 @@ withName s m es = record { spelling = s; meaning = m } ∷ es
 -- "Wires take the bits of a 64-bit word from bit 0 in order."
 unfoldable pub declare : Declaration → Names → Names
 declare (newInput s width) ns =
-    record { declared = withName s (anInput (ns .wires) width) (ns .declared); wires = ns .wires + width; first = ns .first }
+    record { declared = withName s (anInput (ns .wires) width) (ns .declared); wires = ns .wires + width; initial = ns .initial }
 declare (newStore s width v) ns =
-    record { declared = withName s (aStore (length (ns .first)) width) (ns .declared); wires = ns .wires; first = ns .first ++ (v ∷ []) }
-declare (newDefine s ls) ns = record { declared = withName s (aDefine ls) (ns .declared); wires = ns .wires; first = ns .first }
-declare (newProduction s e) ns = record { declared = withName s (aProduction e) (ns .declared); wires = ns .wires; first = ns .first }
+    record { declared = withName s (aStore (length (ns .initial)) width) (ns .declared); wires = ns .wires; initial = ns .initial ++ (v ∷ []) }
+declare (newDefine s ls) ns = record { declared = withName s (aDefine ls) (ns .declared); wires = ns .wires; initial = ns .initial }
+declare (newProduction s e) ns = record { declared = withName s (aProduction e) (ns .declared); wires = ns .wires; initial = ns .initial }
 
 -- ---- an expression that is being read
 
@@ -148,7 +148,7 @@ pub data Expect : Type 0 where
 -- What reading gives: the number of wires, the stores' first values, and the monitors.
 pub record Program : Type 0 where
   pub wires : ℕ
-  pub first : List ℕ
+  pub initial : List ℕ
   pub monitors : List Exp
 
 -- what a token leads to
@@ -355,7 +355,7 @@ atEnd ns ms t (token.name s) = notHere t
 atEnd ns ms t (token.word w) = notHere t
 atEnd ns ms t (token.number n) = notHere t
 atEnd ns ms t (token.sign n) = notHere t
-atEnd ns ms t token.end = finished (record { wires = ns .wires; first = ns .first; monitors = ms })
+atEnd ns ms t token.end = finished (record { wires = ns .wires; initial = ns .initial; monitors = ms })
 atEnd ns ms t (token.refused n) = notHere t
 
 unfoldable pub step : Names → Expect → Placed → Step
@@ -368,7 +368,7 @@ step ns (inputMore s) t =
     choose (is semicolon t) (go (declare (newInput s 1) ns) statement) (choose (is leftBracket t) (go ns (inputHigh s)) (notHere t))
 step ns (inputHigh s) t =
     onNumber t (λ h. unless (ltb 63 h || ltb 64 (ns .wires + suc h)) oversize t (go ns (toZero (closing (newInput s (suc h))))))
-step ns storeName t = newName ns t false (leb 16 (length (ns .first))) (λ s. go ns (storeMore s))
+step ns storeName t = newName ns t false (leb 16 (length (ns .initial))) (λ s. go ns (storeMore s))
 step ns (storeMore s) t = choose (is equals t) (go ns (storeFirst s 1)) (choose (is leftBracket t) (go ns (storeHigh s)) (notHere t))
 step ns (storeHigh s) t =
     onNumber t (λ h. unless (ltb 63 h) oversize t (go ns (toZero (sign equals (storeFirst s (suc h))))))
@@ -411,15 +411,15 @@ step ns (textEnd ms) t = atEnd ns ms t (t .token)
 
 -- ---- the whole text
 
-abbrev pub follow : Step → (Names → Expect → Answer Program) → Answer Program
-follow (go ns x) next = next ns x
-follow (finished p) next = value p
-follow (fault number place) next = refused number (byte place)
+abbrev pub andThen : Step → (Names → Expect → Answer Program) → Answer Program
+andThen (go ns x) next = next ns x
+andThen (finished p) next = value p
+andThen (fault number place) next = refused number (byte place)
 
 -- The last token is the end or a refusal, behind which nothing is read.
 unfoldable pub readOn : Names → Expect → List Placed → Answer Program
 readOn ns x [] = refused misplaced (byte 0)
-readOn ns x (t ∷ ts) = follow (step ns x t) (λ ms y. readOn ms y ts)
+readOn ns x (t ∷ ts) = andThen (step ns x t) (λ ms y. readOn ms y ts)
 
 -- "At most 16,384 bytes": "1 comes first, with place 0".
 unfoldable pub read : List ℕ → Answer Program

@@ -6,6 +6,7 @@ use mathlib.Core.Logic.{_⊎_}
 use Prim.Native.Nat.{ℕ, zero, suc, _+_, _-_, _/_, _%_, _^_, _<_, _≤_, min}
 use lib.Dec.{T, eqb, leb, ltb}
 use Rattle.meaning.specs.Lists.{_∈_, each, any, all, null, only}
+use Rattle.meaning.specs.Answers.{impossible, hollow, openEnd, fork}
 use Rattle.meaning.specs.Expression.{Literal, wire, wire-store, store, Letter, field, Exp, letter, seq, alt, star, pipe, letters, Ordered}
 
 -- ---- what can come first, last and next ----
@@ -160,7 +161,7 @@ firstOf rule (n ∷ ns) rest = turned-away rule (least n ns)
 
 -- "monitor by monitor 9 to 12 in order, with .. lowest letter at fault"
 unfoldable pub shape : Exp → Shape
-shape m = firstOf 9 (unsatisfiable m) (firstOf 10 (nullables m) (firstOf 11 (openEnds m) (firstOf 12 (ambiguous m) accepted)))
+shape m = firstOf impossible (unsatisfiable m) (firstOf hollow (nullables m) (firstOf openEnd (openEnds m) (firstOf fork (ambiguous m) accepted)))
 
 -- A text's monitors: numbered in reading order, none turned away.
 abbrev pub AllRead : List Exp → Type 0

@@ -87,7 +87,7 @@ tickLines (suc k) o s t rest before =
     onReply r t w more)
 
 abbrev ofText : Answer Opened → List ℕ → List ℕ
-ofText (value o) records = countsLine o ++ tickLines (length records) o (opening (start (o .first))) 0 records 0
+ofText (value o) records = countsLine o ++ tickLines (length records) o (opening (start (o .initial))) 0 records 0
 ofText (refused number place) records = refusalLine number place
 
 -- "for a refused text that line is the whole sheet"

@@ -1,0 +1,161 @@
+-- The grammar of rule texts (01, "The rule text", from "A text is any declarations .." on), without an order of reading: what a list of tokens is, and what it means.
+-- `IsX ns ts us m` says that the tokens ts are an X that means m, and us behind it; ns are the names declared above. A form stands below those that it is made of, so that
+-- 01's first sentence is the last here. Names, `declare` and the meanings are those of specs/Reading; proofs/GrammarExact shows that a text is read as a program exactly
+-- if it is one by this grammar. Assumes nothing.
+use mathlib.Core.List.{List, [], _∷_, _++_, map}
+use mathlib.Core.Option.{none, some}
+use mathlib.Core.Path.{_≡_}
+use Prim.Native.Nat.{ℕ, suc, _+_, _^_, _≤_, _<_}
+use lib.ListN.{length}
+use Rattle.lexer.specs.Bytes.{lookup}
+use Rattle.lexer.specs.Tokens.{Token, Placed, name, word, number, sign, end, input, internal, define, monitor, tokens}
+use Rattle.meaning.specs.Expression.{Literal, wire, wire-store, store, Write, from-wire, from-number, Exp, seq, alt, star, pipe}
+use Rattle.lexer.specs.Signs.{semicolon, comma, atSign, star as asterisk, ampersand, bang, leftParen, rightParen, leftBracket, rightBracket, leftBrace, rightBrace, colon, equals, doubleEquals, doubleBar, rightArrow, leftArrow}
+use Rattle.meaning.specs.Reading.{Meaning, anInput, aStore, aDefine, aProduction, Names, noNames, Declaration, newInput, newStore, newDefine, newProduction, declare, storeTests, aLetter, Program}
+
+-- "Names stand above their use": the name s is declared above, and stands for m
+abbrev pub Stands : Names → List ℕ → Meaning → Type 0
+Stands ns s m = lookup s (ns .declared) ≡ some m
+
+-- a name that may be declared: not declared above, and not more than "128 names"
+abbrev pub Free : Names → List ℕ → Type 0
+Free ns s = (lookup s (ns .declared) ≡ none) × (length (ns .declared) < 128)
+
+-- ---- "A literal is .."
+
+-- "a one-bit wire, a wire bit `N[i]`", with its place in the word. "`N[i]` takes either, a one-bit wire having bit 0 alone."
+pub data IsBit (ns : Names) : List Token → List Token → ℕ → Type 0 where
+  -- N
+  one-bit : {s : List ℕ} {lo : ℕ} {us : List Token} → Stands ns s (anInput lo 1) → IsBit ns (name s ∷ us) us lo
+  -- N[i]
+  indexed : {s : List ℕ} {lo width i : ℕ} {us : List Token} → Stands ns s (anInput lo width) → i < width
+      → IsBit ns (name s ∷ sign leftBracket ∷ number i ∷ sign rightBracket ∷ us) us (lo + i)
+
+-- "In these forms `wire` is the bare name of any input, one-bit or field". A define's name means all of its literals.
+pub data IsLiteral (ns : Names) : List Token → List Token → List Literal → Type 0 where
+  -- N    N[i]
+  set-bit : {i : ℕ} {ts us : List Token} → IsBit ns ts us i → IsLiteral ns ts us (wire i 1 1 ∷ [])
+  -- "either with `!` before it"
+  clear-bit : {i : ℕ} {ts us : List Token} → IsBit ns ts us i → IsLiteral ns (sign bang ∷ ts) us (wire i 1 0 ∷ [])
+  -- wire == number, which fits the wire
+  wire-equals-number : {s : List ℕ} {lo width v : ℕ} {us : List Token} → Stands ns s (anInput lo width) → v < 2 ^ width
+      → IsLiteral ns (name s ∷ sign doubleEquals ∷ number v ∷ us) us (wire lo width v ∷ [])
+  -- wire == store, as wide as the wire
+  wire-equals-store : {s r : List ℕ} {lo width n : ℕ} {us : List Token} → Stands ns s (anInput lo width) → Stands ns r (aStore n width)
+      → IsLiteral ns (name s ∷ sign doubleEquals ∷ name r ∷ us) us (wire-store lo width n ∷ [])
+  -- store == number, which fits the store
+  store-equals-number : {s : List ℕ} {n width v : ℕ} {us : List Token} → Stands ns s (aStore n width) → v < 2 ^ width
+      → IsLiteral ns (name s ∷ sign doubleEquals ∷ number v ∷ us) us (store n v ∷ [])
+  -- "or a define (never with `!`)"
+  defined : {s : List ℕ} {ls : List Literal} {us : List Token} → Stands ns s (aDefine ls) → IsLiteral ns (name s ∷ us) us ls
+
+-- "literals joined by `&`"
+pub data IsLiterals (ns : Names) : List Token → List Token → List Literal → Type 0 where
+  one-literal : {ls : List Literal} {ts us : List Token} → IsLiteral ns ts us ls → IsLiterals ns ts us ls
+  and-literal : {ks ls : List Literal} {ts vs us : List Token} → IsLiterals ns ts (sign ampersand ∷ vs) ks → IsLiteral ns vs us ls
+      → IsLiterals ns ts us (ks ++ ls)
+
+-- ---- "A letter is literals joined by `&`, then optionally `{`, one or more writes, `}`"
+
+-- "a write is `store <- wire;` or `store <- number;`": a wire as wide as the store, or a number that fits it
+pub data IsWrite (ns : Names) : List Token → List Token → Write → Type 0 where
+  write-wire : {s r : List ℕ} {n width lo : ℕ} {us : List Token} → Stands ns s (aStore n width) → Stands ns r (anInput lo width)
+      → IsWrite ns (name s ∷ sign leftArrow ∷ name r ∷ sign semicolon ∷ us) us (from-wire n lo width)
+  write-number : {s : List ℕ} {n width v : ℕ} {us : List Token} → Stands ns s (aStore n width) → v < 2 ^ width
+      → IsWrite ns (name s ∷ sign leftArrow ∷ number v ∷ sign semicolon ∷ us) us (from-number n v)
+
+-- "one or more writes"
+pub data IsWrites (ns : Names) : List Token → List Token → List Write → Type 0 where
+  one-write : {w : Write} {ts us : List Token} → IsWrite ns ts us w → IsWrites ns ts us (w ∷ [])
+  next-write : {ws : List Write} {w : Write} {ts vs us : List Token} → IsWrites ns ts vs ws → IsWrite ns vs us w → IsWrites ns ts us (ws ++ (w ∷ []))
+
+-- "2 store tests and 2 writes a letter after defines are opened"
+pub data IsLetter (ns : Names) : List Token → List Token → Exp → Type 0 where
+  no-writes : {ls : List Literal} {ts us : List Token} → IsLiterals ns ts us ls → storeTests ls ≤ 2 → IsLetter ns ts us (aLetter ls [])
+  with-writes : {ls : List Literal} {ws : List Write} {ts vs us : List Token} → IsLiterals ns ts (sign leftBrace ∷ vs) ls → storeTests ls ≤ 2
+      → IsWrites ns vs (sign rightBrace ∷ us) ws → length ws ≤ 2 → IsLetter ns ts us (aLetter ls ws)
+
+-- ---- "Operators, tightest first: `*` (once), `@` (once; more need parentheses), `,`, `||`; the last two group to the left."
+
+-- Each with the number of parentheses that may be opened one inside the other.
+mutual
+  -- a letter, a production's name or a parenthesis
+  pub data IsAtom (ns : Names) : ℕ → List Token → List Token → Exp → Type 0 where
+    of-letter : {n : ℕ} {e : Exp} {ts us : List Token} → IsLetter ns ts us e → IsAtom ns n ts us e
+    -- N: "Its name in an expression stands for a copy of it"
+    copied : {n : ℕ} {s : List ℕ} {e : Exp} {us : List Token} → Stands ns s (aProduction e) → IsAtom ns n (name s ∷ us) us e
+    -- (e)
+    parens : {n : ℕ} {e : Exp} {ts us : List Token} → IsAlternative ns n ts (sign rightParen ∷ us) e → IsAtom ns (suc n) (sign leftParen ∷ ts) us e
+
+  pub data IsStarred (ns : Names) : ℕ → List Token → List Token → Exp → Type 0 where
+    unstarred : {n : ℕ} {e : Exp} {ts us : List Token} → IsAtom ns n ts us e → IsStarred ns n ts us e
+    -- e*
+    starred : {n : ℕ} {e : Exp} {ts us : List Token} → IsAtom ns n ts (sign asterisk ∷ us) e → IsStarred ns n ts us (star e)
+
+  pub data IsPiped (ns : Names) : ℕ → List Token → List Token → Exp → Type 0 where
+    unpiped : {n : ℕ} {e : Exp} {ts us : List Token} → IsStarred ns n ts us e → IsPiped ns n ts us e
+    -- e @ f
+    piped : {n : ℕ} {e f : Exp} {ts vs us : List Token} → IsStarred ns n ts (sign atSign ∷ vs) e → IsStarred ns n vs us f → IsPiped ns n ts us (pipe e f)
+
+  pub data IsSequence (ns : Names) : ℕ → List Token → List Token → Exp → Type 0 where
+    one-term : {n : ℕ} {e : Exp} {ts us : List Token} → IsPiped ns n ts us e → IsSequence ns n ts us e
+    -- e , f
+    followed : {n : ℕ} {e f : Exp} {ts vs us : List Token} → IsSequence ns n ts (sign comma ∷ vs) e → IsPiped ns n vs us f → IsSequence ns n ts us (seq e f)
+
+  pub data IsAlternative (ns : Names) : ℕ → List Token → List Token → Exp → Type 0 where
+    one-way : {n : ℕ} {e : Exp} {ts us : List Token} → IsSequence ns n ts us e → IsAlternative ns n ts us e
+    -- e || f
+    either : {n : ℕ} {e f : Exp} {ts vs us : List Token} → IsAlternative ns n ts (sign doubleBar ∷ vs) e → IsSequence ns n vs us f
+        → IsAlternative ns n ts us (alt e f)
+
+-- "Parentheses may nest 32 deep."
+abbrev pub IsExpression : Names → List Token → List Token → Exp → Type 0
+IsExpression ns ts us e = IsAlternative ns 32 ts us e
+
+-- ---- declarations
+
+-- nothing: one bit; or `[h:0]`: "h+1 wires, h 0 to 63"
+pub data IsWidth : List Token → List Token → ℕ → Type 0 where
+  no-field : {us : List Token} → IsWidth us us 1
+  field-of : {h : ℕ} {us : List Token} → h ≤ 63
+      → IsWidth (sign leftBracket ∷ number h ∷ sign colon ∷ number 0 ∷ sign rightBracket ∷ us) us (suc h)
+
+-- "any declarations .. Each ends in `;`."
+pub data IsDeclaration (ns : Names) : List Token → List Token → Declaration → Type 0 where
+  -- input N;    input N[h:0];    "64 wires"
+  an-input : {s : List ℕ} {width : ℕ} {ts us : List Token} → Free ns s → IsWidth ts (sign semicolon ∷ us) width → ns .wires + width ≤ 64
+      → IsDeclaration ns (word input ∷ name s ∷ ts) us (newInput s width)
+  -- internal N = v;    internal N[h:0] = v;    "16 stores"
+  a-store : {s : List ℕ} {width v : ℕ} {ts us : List Token} → Free ns s → length (ns .initial) < 16
+      → IsWidth ts (sign equals ∷ number v ∷ sign semicolon ∷ us) width → v < 2 ^ width
+      → IsDeclaration ns (word internal ∷ name s ∷ ts) us (newStore s width v)
+  -- define N = literals;
+  a-define : {s : List ℕ} {ls : List Literal} {ts us : List Token} → Free ns s → IsLiterals ns ts (sign semicolon ∷ us) ls
+      → IsDeclaration ns (word define ∷ name s ∷ sign equals ∷ ts) us (newDefine s ls)
+  -- N -> expression;
+  a-production : {s : List ℕ} {e : Exp} {ts us : List Token} → Free ns s → IsExpression ns ts (sign semicolon ∷ us) e
+      → IsDeclaration ns (name s ∷ sign rightArrow ∷ ts) us (newProduction s e)
+
+-- ---- the text
+
+-- "production names joined by `,`; one listed twice is two monitors"
+pub data IsMonitors (ns : Names) : List Token → List Token → List Exp → Type 0 where
+  one-monitor : {s : List ℕ} {e : Exp} {us : List Token} → Stands ns s (aProduction e) → IsMonitors ns (name s ∷ us) us (e ∷ [])
+  next-monitor : {s : List ℕ} {ms : List Exp} {e : Exp} {ts us : List Token} → IsMonitors ns ts (sign comma ∷ name s ∷ us) ms → Stands ns s (aProduction e)
+      → IsMonitors ns ts us (ms ++ (e ∷ []))
+
+-- "A text is any declarations, then one monitor statement, then the end."
+pub data IsText : Names → List Token → Program → Type 0 where
+  -- a declaration, whose name may be used in what stands behind it
+  declares : {ns : Names} {d : Declaration} {p : Program} {ts us : List Token} → IsDeclaration ns ts us d → IsText (declare d ns) us p → IsText ns ts p
+  -- monitor names;    "32 monitors"
+  monitors : {ns : Names} {ms : List Exp} {ts : List Token} → IsMonitors ns ts (sign semicolon ∷ end ∷ []) ms → length ms ≤ 32
+      → IsText ns (word monitor ∷ ts) (record { wires = ns .wires; initial = ns .initial; monitors = ms })
+
+-- the tokens without their places
+abbrev pub plainTokens : List Placed → List Token
+plainTokens ps = map (λ t. t .token) ps
+
+-- The bytes of a text are the program p.
+abbrev pub IsProgram : List ℕ → Program → Type 0
+IsProgram text p = IsText noNames (plainTokens (tokens text)) p
