@@ -1,8 +1,11 @@
 // Turns cases into a module of theorems for the prover: the sheet that the definitions compute is the
-// case's own. Takes the case file, the first case, how many, and the longest text and trace to take.
+// case's own. Takes the case file, the module of examples, the first case and how many.
 
 use std::env;
 use std::fs;
+
+// Chained productions whose nested stars, written out, are a tree of many thousand rows.
+const LEFT_OUT: [&str; 1] = ["hollow-chain"];
 
 struct Case {
     name: String,
@@ -54,8 +57,8 @@ fn main() {
     let (uses, unfolding) = head(&examples);
     println!("-- Cases as theorems.\n{uses}\n");
     for (k, case) in cases(&file).iter().enumerate().skip(number(3)).take(number(4)) {
-        if case.text.len() > number(5) || case.trace.len() > number(6) {
-            eprintln!("left out, too long: {}", case.name);
+        if LEFT_OUT.contains(&case.name.as_str()) {
+            eprintln!("left out: {}", case.name);
             continue;
         }
         println!(
