@@ -1,11 +1,12 @@
 -- The shared examples hold: each sheet is what the definitions compute. Assumes nothing.
 use mathlib.Core.Path.{_≡_, refl}
+use mathlib.Core.Bool.{true}
 use mathlib.Core.List.{List, [], _∷_, _++_}
 use Prim.Native.Nat.{ℕ}
 use Rattle.lexer.specs.Bytes.{isWhite, isDigit, isLetter, run, same, lookup}
 use Rattle.lexer.specs.Tokens.{nameToken, valueFrom, numberToken, signToken, firstToken, nextToken, tokenAt, tokensFrom, tokensAt}
-use Rattle.meaning.specs.Expression.{letters, size, rows, renumbered}
-use Rattle.meaning.specs.Fit.{meets, merge, rounds, runs, writeMet, onward, verdict}
+use Rattle.meaning.specs.Expression.{Exp, letters, size, rows, renumbered}
+use Rattle.meaning.specs.Fit.{fits, meets, merge, rounds, runs, writeMet, onward, verdict}
 use Rattle.meaning.specs.Shape.{nullable, first, last, follow, threads, agree, together, unsatisfiable, parts, nullables, openEnds, ambiguous, shape, meetsWires}
 use Rattle.meaning.specs.Reading.{choose, onName, onNumber, ifName, ifNumber, unless, byKind, known, newName, notHere, atToken, declare, storeTests, literalName, behindOperand, behindLiteral, step, readOn, read}
 use Rattle.meaning.specs.Answers.{value}
@@ -32,7 +33,12 @@ pub sample-trace : writeTrace (sample .words) ≡ 1 ∷ 1 ∷ 1 ∷ 0 ∷ 0 ∷ 
 unfolding digit number count picked recordOf differs changes written writeAll writeTrace
 sample-trace = refl
 
--- "the empty list of words fits each monitor; its sheet ends `clean 0`"
+-- "the empty list of words fits each monitor"
+pub empty-fits : (m : Exp) → fits m [] ≡ true
+unfolding runs rounds
+empty-fits m = refl
+
+-- "its sheet ends `clean 0`"
 pub nothing-yet : (text : List ℕ) (o : Opened) → openText text ≡ value o → sheet text [] ≡ countsLine o ++ cleanLine 0
 unfolding sheet tickLines
 nothing-yet text o e = rw e

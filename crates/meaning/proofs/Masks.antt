@@ -120,9 +120,9 @@ module _ (a b w : ℕ) (small : a < 2 ^ 64) where
   unfolding passes
   passes-if h =
       let same : bitAnd (bitXor w b) a ≡ 0
-        = same-bits 64 (bitAnd (bitXor w b) a) 0 (lt-of-le-of-lt (and-le-r (bitXor w b) a) small) (pow-pos 64)
-        (λ i l. bit-and i (bitXor w b) a ∙ ap (λ (x : ℕ). bitAnd x (bit i a)) (bit-xor i w b)
-        ∙ alike-if (bit-is i w) (bit-is i b) (bit-is i a) (h i l) ∙ sym (zero-bit i)) in
+      = same-bits 64 (bitAnd (bitXor w b) a) 0 (lt-of-le-of-lt (and-le-r (bitXor w b) a) small) (pow-pos 64)
+      (λ i l. bit-and i (bitXor w b) a ∙ ap (λ (x : ℕ). bitAnd x (bit i a)) (bit-xor i w b)
+      ∙ alike-if (bit-is i w) (bit-is i b) (bit-is i a) (h i l) ∙ sym (zero-bit i)) in
       subst (λ (x : ℕ). T (eqb x 0)) (sym same) (eqb-refl 0)
 
 -- ---- the masks of literals, bit by bit

@@ -12,6 +12,7 @@ use Rattle.meaning.specs.Calls as calls
 use Rattle.meaning.specs.Calls.{Reply, ok, bad, State, opening, reply, after}
 use Rattle.trace.specs.Answer as trace
 use Rattle.trace.specs.Record.{Item, word, end, readRecord}
+use Rattle.trace.specs.Whole.{Lent, lend, numberOrZero}
 
 -- ---- numbers
 
@@ -93,3 +94,10 @@ ofText (refused number place) records = refusalLine number place
 -- "for a refused text that line is the whole sheet"
 unfoldable pub sheet : List ℕ → List ℕ → List ℕ
 sheet text records = ofText (openText text) records
+
+-- The C program hands over a byte range for the printed sheet. "It gets the sheet's length, or 0 and an untouched range if that is too short." What is beyond the sheet is untouched too.
+unfoldable pub lentSheet : List ℕ → List ℕ → List ℕ → Lent
+lentSheet text records range = lend (sheet text records) range
+
+abbrev pub lentLength : List ℕ → List ℕ → List ℕ → ℕ
+lentLength text records range = numberOrZero (lentSheet text records range .answer)
