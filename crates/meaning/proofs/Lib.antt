@@ -17,6 +17,7 @@ pub mod Prefix
 pub mod Walk
 pub mod Calls
 pub mod Steps
+pub mod Stops
 pub mod Blame
 pub mod Within
 pub mod GrammarReads

@@ -416,7 +416,7 @@ andThen (go ns x) next = next ns x
 andThen (finished p) next = value p
 andThen (fault number place) next = refused number (byte place)
 
--- The last token is the end or a refusal, behind which nothing is read.
+-- The last token is the end or a refusal, behind which nothing is read (proofs/Stops): the first line answers for a list without them, which no text has.
 unfoldable pub readOn : Names → Expect → List Placed → Answer Program
 readOn ns x [] = refused misplaced (byte 0)
 readOn ns x (t ∷ ts) = andThen (step ns x t) (λ ms y. readOn ms y ts)
