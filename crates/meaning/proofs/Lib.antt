@@ -18,6 +18,7 @@ pub mod Walk
 pub mod Calls
 pub mod Steps
 pub mod Stops
+pub mod Summary
 pub mod Blame
 pub mod Within
 pub mod GrammarReads

@@ -12,4 +12,5 @@ pub mod Positions
 pub mod Table
 pub mod Masks
 pub mod Sheet
+pub mod Summary
 pub mod Examples
