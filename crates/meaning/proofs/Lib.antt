@@ -19,6 +19,7 @@ pub mod Calls
 pub mod Steps
 pub mod Stops
 pub mod Summary
+pub mod Rows
 pub mod Blame
 pub mod Within
 pub mod GrammarReads

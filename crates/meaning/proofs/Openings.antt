@@ -18,9 +18,11 @@ use Rattle.meaning.specs.Shape.{wireHolds, meetsWires, Unsatisfiable, To
 use Rattle.meaning.specs.Reading.{Program, read}
 use Rattle.meaning.specs.Opening
 use Rattle.meaning.specs.Opening.{Opened, asOpened, tooLong, misshapen, openProgram, openText}
+use Rattle.meaning.specs.Table.{HoldsAll, laidAll, asTable}
 use Rattle.meaning.specs.Calls.{replies, machineReplies}
 use Rattle.meaning.proofs.ListLaws.{clash, cons-∈, no-∈, one-∈, map-∈, append-∈}
 use Rattle.meaning.proofs.Numbering.{renumbered-size, renumbered-rows, renumbered-ordered}
+use Rattle.meaning.proofs.Rows.{rows-no-more, program-held}
 use Rattle.meaning.proofs.RowCount.{rows-below-1024}
 use Rattle.meaning.proofs.Rules.{unsatisfiable-at, ambiguous-at}
 use Rattle.meaning.proofs.Calls.{calls-right}
@@ -102,16 +104,21 @@ module _ (text : List ℕ) (o : Opened) (e : openText text ≡ value o) where
       let (d, j, p) = map-∈ (renumbered 0) (a .program .monitors) (subst (λ ms. m ∈ ms) numbered i) in
       (subst (Ordered 0) p (renumbered-ordered 0 d), a .shaped m i)
 
+  row-count : total rows (o .monitors) ≡ o .rowCount
+  unfolding asOpened
+  row-count =
+      ap (total rows) numbered ∙ total-renumbered rows (renumbered-rows 0) (a .program .monitors) ∙ ap (λ z. z .rowCount) (a .opens)
+
+  -- Its rows, laid out, are as many as opening answers with, and as a table they hold its monitors.
+  pub rows-right : (length (laidAll 0 (o .monitors)) ≡ o .rowCount) × HoldsAll (asTable (laidAll 0 (o .monitors))) 0 (o .monitors)
+  rows-right = (rows-no-more 0 (o .monitors) ∙ row-count, program-held (o .monitors) (λ m i. all-read m i .0))
+
   -- An accepted text has fewer than 1,024 rows.
   pub rows-fit : o .rowCount < 1024
-  unfolding asOpened
   rows-fit =
-      let r : o .rowCount ≡ total rows (a .program .monitors) = sym (ap (λ z. z .rowCount) (a .opens)) in
-      let s : total rows (o .monitors) ≡ total rows (a .program .monitors)
-      = ap (total rows) numbered ∙ total-renumbered rows (renumbered-rows 0) (a .program .monitors) in
       let t : total size (o .monitors) ≡ total size (a .program .monitors)
       = ap (total size) numbered ∙ total-renumbered size (renumbered-size 0) (a .program .monitors) in
-      omega (arith, rows-below-1024 (o .monitors) (a .shaped) (omega (arith, a .few)))
+      omega (arith, row-count, rows-below-1024 (o .monitors) (a .shaped) (omega (arith, a .few)))
 
   -- The machine of active positions answers every list of calls as the definitions do.
   pub machine-right : (ws : List ℕ) → machineReplies (o .monitors) (o .initial) (o .wires) ws ≡ replies (o .monitors) (o .initial) (o .wires) ws

@@ -17,7 +17,7 @@ use Rattle.meaning.proofs.Step.{Solid}
 use Rattle.meaning.proofs.OneWay.{Numbered, Has}
 use Rattle.meaning.proofs.Active.{in-left, in-right}
 
-a-row : (e : Exp) → 1 ≤ rows e
+pub a-row : (e : Exp) → 1 ≤ rows e
 unfolding rows
 a-row (letter l) = omega arith
 a-row (seq e f) = omega arith

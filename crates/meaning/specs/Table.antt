@@ -1,11 +1,12 @@
 -- The table of rows, and the walk over it: "being asked and being left send each other on through the rows".
-use mathlib.Core.List.{List, [], _∷_}
+use mathlib.Core.List.{List, [], _∷_, _++_}
 use mathlib.Core.Bool.{Bool, cond}
 use mathlib.Core.Option.{Option, none, some}
 use mathlib.Core.Path.{_≡_}
-use Prim.Native.Nat.{ℕ, zero, suc}
+use Prim.Native.Nat.{ℕ, zero, suc, _+_}
 use lib.Dec.{eqb}
-use Rattle.meaning.specs.Expression.{Letter, Exp, letter, seq, alt, star, pipe}
+use lib.ListN.{getD}
+use Rattle.meaning.specs.Expression.{Letter, Exp, letter, seq, alt, star, pipe, rows}
 use Rattle.meaning.specs.Fit.{Tick, meets}
 use Rattle.meaning.specs.Positions.{Way, orElse, joined}
 
@@ -39,6 +40,49 @@ Holds R top place r (star e) = (R r .kind ≡ is-star) × Under R top r (R r .le
 Holds R top place r (pipe e f) =
     (R r .kind ≡ is-pipe) × Under R top r (R r .left) × Under R top r (R r .right) × (R r .right ≡ R r .left → ⊥)
     × Holds R top place (R r .left) e × Holds R top place (R r .right) f
+
+-- ---- the rows of a program ----
+
+abbrev row : Kind → (left right up : ℕ) → Row
+row k left right up = record { kind = k; left = left; right = right; up = up }
+
+-- The rows of e from row r on, where it is an operand of row up: an operator's row stands before its operands' rows. What has no operand points at row 0.
+unfoldable pub laid : (r up : ℕ) → Exp → List Row
+laid r up (letter l) = row (is-letter l) 0 0 up ∷ []
+laid r up (seq e f) = row is-seq (suc r) (suc r + rows e) up ∷ (laid (suc r) r e ++ laid (suc r + rows e) r f)
+laid r up (alt e f) = row is-alt (suc r) (suc r + rows e) up ∷ (laid (suc r) r e ++ laid (suc r + rows e) r f)
+laid r up (star e) = row is-star (suc r) 0 up ∷ laid (suc r) r e
+laid r up (pipe e f) = row is-pipe (suc r) (suc r + rows e) up ∷ (laid (suc r) r e ++ laid (suc r + rows e) r f)
+
+-- the rows of its letters, in reading order
+unfoldable pub letterRows : ℕ → Exp → List ℕ
+letterRows r (letter l) = r ∷ []
+letterRows r (seq e f) = letterRows (suc r) e ++ letterRows (suc r + rows e) f
+letterRows r (alt e f) = letterRows (suc r) e ++ letterRows (suc r + rows e) f
+letterRows r (star e) = letterRows (suc r) e
+letterRows r (pipe e f) = letterRows (suc r) e ++ letterRows (suc r + rows e) f
+
+-- the monitors' rows, one monitor's behind the other's; a monitor is nobody's operand and points at itself
+unfoldable pub laidAll : ℕ → List Exp → List Row
+laidAll r [] = []
+laidAll r (m ∷ ms) = laid r r m ++ laidAll (r + rows m) ms
+
+-- what is told of a row that is not there
+abbrev pub noRow : Row
+noRow = row is-seq 0 0 0
+
+-- a list of rows as a table
+abbrev pub asTable : List Row → Table
+asTable rs n = getD rs n noRow
+
+-- the row of letter k of a monitor that stands from row r on
+abbrev pub letterRow : ℕ → Exp → ℕ → ℕ
+letterRow r m k = getD (letterRows r m) k 0
+
+-- the table holds the monitors from row r on
+abbrev pub HoldsAll : Table → ℕ → List Exp → Type 0
+HoldsAll R r [] = Unit {0}
+HoldsAll R r (m ∷ ms) = Holds R r (letterRow r m) r m × HoldsAll R (r + rows m) ms
 
 -- ---- the walk ----
 
