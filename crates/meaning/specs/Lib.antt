@@ -8,9 +8,10 @@ pub mod Shape
 pub mod Opening
 pub mod Fit
 pub mod Calls
+pub mod Sheet
+pub mod Examples
+-- How code may do it: nothing here has to be believed, since proofs tie it to the above.
 pub mod Positions
 pub mod Table
 pub mod Masks
-pub mod Sheet
 pub mod Summary
-pub mod Examples
