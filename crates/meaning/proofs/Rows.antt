@@ -7,7 +7,7 @@ use lib.ListN.{length, length-append, getD}
 use lib.Seq.{getD-append-seam}
 use Rattle.meaning.specs.Lists.{_∈_, total}
 use Rattle.meaning.specs.Expression.{Exp, letter, seq, alt, star, pipe, size, rows, Ordered}
-use Rattle.meaning.specs.Table.{Row, Table, Holds, laid, letterRows, letterRow, HoldsAll, laidAll, noRow, asTable}
+use Rattle.meaning.specs.Table.{Kind, is-seq, is-alt, is-pipe, Row, row, Table, Under, Holds, laid, letterRows, letterRow, HoldsAll, laidAll, noRow, asTable}
 use Rattle.meaning.proofs.ListLaws.{here, there}
 use Rattle.meaning.proofs.Walk.{a-row}
 
@@ -64,39 +64,44 @@ module _ (R : Table) (top : ℕ) (place : ℕ → ℕ) where
   abbrev Right : (r up : ℕ) → Exp → Type 0
   Right r up e = Holds R top place r e × (R r .up ≡ up)
 
-  -- where the rows of two operands stand one behind the other, and their letters' rows
-  both : (r k : ℕ) (e f : Exp) → Stands R (suc r) (laid (suc r) r e ++ laid (suc r + rows e) r f)
+  -- An operator's row r, behind which the rows of its two operands stand, and the rows of their letters; what is known of each operand where its own stand.
+  operands : (κ : Kind) (r up k : ℕ) (e f : Exp) → top ≤ r
+      → Stands R r (row κ (suc r) (suc r + rows e) up ∷ (laid (suc r) r e ++ laid (suc r + rows e) r f))
       → Stands place k (letterRows (suc r) e ++ letterRows (suc r + rows e) f)
       → (Stands R (suc r) (laid (suc r) r e) → Stands place k (letterRows (suc r) e) → Right (suc r) r e)
       → (Stands R (suc r + rows e) (laid (suc r + rows e) r f) → Stands place (k + size e) (letterRows (suc r + rows e) f) → Right (suc r + rows e) r f)
-      → Right (suc r) r e × Right (suc r + rows e) r f
-  both r k e f s p x y =
-      let (a, b) = parted R (suc r) (rows e) (laid (suc r) r e) (laid (suc r + rows e) r f) (laid-length (suc r) r e) s in
+      → (R r .kind ≡ κ) × Under R top r (R r .left) × Under R top r (R r .right) × (R r .right ≡ R r .left → ⊥)
+      × Holds R top place (R r .left) e × Holds R top place (R r .right) f
+  operands κ r up k e f h s p left right =
+      let (a, b) = parted R (suc r) (rows e) (laid (suc r) r e) (laid (suc r + rows e) r f) (laid-length (suc r) r e) (s .1) in
       let (c, d) = parted place k (size e) (letterRows (suc r) e) (letterRows (suc r + rows e) f) (letters-length (suc r) e) p in
-      (x a c, y b d)
+      let x = left a c in
+      let y = right b d in
+      let n = a-row e in
+      rw (s .0) (refl, (x .1, λ z. absurd (omega arith)), (y .1, λ z. absurd (omega arith)), λ z. absurd (omega arith), x .0, y .0)
 
   -- Where the rows laid for e stand in a table, that table holds e.
   pub laid-holds : (r up k : ℕ) (e : Exp) → top ≤ r → Stands R r (laid r up e) → Ordered k e → Stands place k (letterRows r e)
       → Holds R top place r e × (R r .up ≡ up)
   unfolding laid letterRows
   laid-holds r up k (letter l) h s o p = ((rw (s .0) refl, rw o (p .0)), rw (s .0) refl)
-  laid-holds r up k (seq e f) h s o p =
-      let (x, y) = both r k e f (s .1) p (λ a b. laid-holds (suc r) r k e (omega arith) a (o .0) b)
-      (λ a b. laid-holds (suc r + rows e) r (k + size e) f (omega arith) a (o .1) b) in
-      let n = a-row e in
-      rw (s .0) ((refl, (x .1, λ z. absurd (omega arith)), (y .1, λ z. absurd (omega arith)), λ z. absurd (omega arith), x .0, y .0), refl)
+  laid-holds r up k (seq e f) h s o p = (
+    operands is-seq r up k e f h s p (λ a b. laid-holds (suc r) r k e (omega arith) a (o .0) b)
+        (λ a b. laid-holds (suc r + rows e) r (k + size e) f (omega arith) a (o .1) b),
+    rw (s .0) refl,
+  )
   laid-holds r up k (alt e f) h s o p =
-      let (x, y) = both r k e f (s .1) p (λ a b. laid-holds (suc r) r k e (omega arith) a (o .0) b)
+      let (q, u, v, n, x, y) = operands is-alt r up k e f h s p (λ a b. laid-holds (suc r) r k e (omega arith) a (o .0) b)
       (λ a b. laid-holds (suc r + rows e) r (k + size e) f (omega arith) a (o .1) b) in
-      rw (s .0) ((refl, (x .1, λ z. absurd (omega arith)), (y .1, λ z. absurd (omega arith)), x .0, y .0), refl)
+      ((q, u, v, x, y), rw (s .0) refl)
   laid-holds r up k (star e) h s o p =
       let x = laid-holds (suc r) r k e (omega arith) (s .1) o p in
       rw (s .0) ((refl, (x .1, λ z. absurd (omega arith)), x .0), refl)
-  laid-holds r up k (pipe e f) h s o p =
-      let (x, y) = both r k e f (s .1) p (λ a b. laid-holds (suc r) r k e (omega arith) a (o .0) b)
-      (λ a b. laid-holds (suc r + rows e) r (k + size e) f (omega arith) a (o .1) b) in
-      let n = a-row e in
-      rw (s .0) ((refl, (x .1, λ z. absurd (omega arith)), (y .1, λ z. absurd (omega arith)), λ z. absurd (omega arith), x .0, y .0), refl)
+  laid-holds r up k (pipe e f) h s o p = (
+    operands is-pipe r up k e f h s p (λ a b. laid-holds (suc r) r k e (omega arith) a (o .0) b)
+        (λ a b. laid-holds (suc r + rows e) r (k + size e) f (omega arith) a (o .1) b),
+    rw (s .0) refl,
+  )
 
 -- ---- the whole program
 

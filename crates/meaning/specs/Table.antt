@@ -43,7 +43,7 @@ Holds R top place r (pipe e f) =
 
 -- ---- the rows of a program ----
 
-abbrev row : Kind → (left right up : ℕ) → Row
+abbrev pub row : Kind → (left right up : ℕ) → Row
 row k left right up = record { kind = k; left = left; right = right; up = up }
 
 -- The rows of e from row r on, where it is an operand of row up: an operator's row stands before its operands' rows. What has no operand points at row 0.
