@@ -287,14 +287,14 @@ const CLASS: [u8; 256] = [
 ];
 
 // The table, for a caller to hold and lend: a constant array is laid out anew wherever it is used.
-pub fn class_table() -> [u8; 256]
+pub(crate) fn class_table() -> [u8; 256]
     ensures { λ r. ⌜ Listed r ⌝ }
 {
     CLASS
 }
 
 // The class of a byte, by a table that lists it.
-pub fn class_of(table: &[u8; 256], b: u8) -> u8
+pub(crate) fn class_of(table: &[u8; 256], b: u8) -> u8
     requires { ⌜ Listed (now table) ⌝ }
     ensures { λ r. ⌜ r ≡ classOf b ⌝ }
 {

@@ -16,7 +16,7 @@ use classes::LETTER;
 use classes::SIGN;
 use classes::WHITE;
 use classes::class_of;
-pub use classes::class_table;
+use classes::class_table;
 
 // The signs, by their numbers in 01's order.
 pub const SEMICOLON: u8 = 0;
@@ -111,7 +111,7 @@ fn run_end(table: &[u8; 256], text: &[u8], from: usize, low: u8, high: u8) -> us
 }
 
 // Whether two slices hold the same bytes.
-fn equal(a: &[u8], b: &[u8]) -> bool
+pub fn equal(a: &[u8], b: &[u8]) -> bool
     ensures { λ r. ⌜ r ≡ same (now (a .entry)) (now (b .entry)) ⌝ }
 {
     if a.len() != b.len() {
@@ -252,7 +252,7 @@ fn sign_at(text: &[u8], place: usize, class: u8) -> Token
 }
 
 // The token at a position of a text, after white space, by a table that lists the classes. Past the end it is the end, at the text's length.
-pub fn token_by(table: &[u8; 256], text: &[u8], at: usize) -> Token
+fn token_by(table: &[u8; 256], text: &[u8], at: usize) -> Token
     requires { ⌜ Listed (now table) ⌝ }
     ensures { λ r. ⌜ shown (now (text .entry)) r ≡ tokenAt (now (text .entry)) at ⌝ }
 {
@@ -274,7 +274,7 @@ pub fn token_by(table: &[u8; 256], text: &[u8], at: usize) -> Token
     sign_at(text, place, class)
 }
 
-// The token at a position of a text. Who reads many holds the table and calls `token_by`.
+// The token at a position of a text.
 pub fn token_at(text: &[u8], at: usize) -> Token
     ensures { λ r. ⌜ shown (now (text .entry)) r ≡ tokenAt (now (text .entry)) at ⌝ }
 {

@@ -61,11 +61,10 @@ fn add(sum: u64, t: Token) -> u64
 pub extern "C" fn lexer_bench_checksum(text: &[u8]) -> u64
     ensures { λ r. ⌜ r ≡ checksum 0 (tokens (now (text .entry))) ⌝ }
 {
-    let table = lexer::class_table();
     let mut at = 0;
     let mut sum: u64 = 0;
     loop {
-        let t = lexer::token_by(&table, text, at);
+        let t = lexer::token_at(text, at);
         sum = add(sum, t);
         let k = t.kind;
         if !goes_on(k) {
