@@ -6,62 +6,62 @@ use mathlib.Core.Path.{_≡_, refl, sym, ap, ap₂, _∙_, subst}
 use mathlib.Core.Logic.{_⊎_, inl, inr, ⊎-elim}
 use Prim.Native.Nat.{ℕ, zero, suc, _+_, _*_, _-_, _/_, _%_, _^_, _≤_, _<_}
 use native.Mathlib.Omega.{arith}
-use native.Mathlib.Nat.{add-comm, mod-lt, pow-suc, mul-assoc, lt-of-le-of-lt, lt-of-lt-of-le, div-eq-of-lt, le-dest}
+use native.Mathlib.Nat.{add-comm, mod-lt, pow-suc, mul-assoc, lt-of-le-of-lt, lt-of-lt-of-le, div-eq-of-lt, mod-eq-of-lt, le-dest}
 use native.Mathlib.Decide.{decLt}
 use lib.Dec.{T, eqb, leb, ltb, eqb→eq, eqb-refl, leb→le, ltb→lt}
-use lib.Bits.{bitAnd, bitOr, bitXor, and-shr, or-shr, xor-shr, and-mod, or-mod, xor-mod, and-le-r, or-lt, or-comm, shifted-even}
+use lib.Bits.{bitAnd, bitOr, bitXor, and-shr, or-shr, xor-shr, and-mod, or-mod, xor-mod, and-le-r, or-lt, or-comm, or-zero-l, shifted-even}
 use lib.Pow.{pow-pos, pow-mono, pow-add, shr-shr, shl-shr, shl-lt, ones-split, ones-lt, high}
 use borrow.Author.Tests.{le-leb, lt-leb, lt-ltb, le-ltb}
 use Rattle.meaning.specs.Lists.{_∈_, any, all}
 use Rattle.meaning.specs.Expression.{Literal, wire, wire-store, store, field}
 use Rattle.meaning.specs.Shape.{bit, asks, agree, wireHolds, Sized, AllSized}
-use Rattle.meaning.proofs.ListLaws.{here, there, cons-∈, no-∈, append-∈, ∈-left, ∈-right, and-T, all-at, all-from, any-from, any-to}
+use Rattle.meaning.proofs.ListLaws.{here, there, cons-∈, no-∈, append-∈, ∈-left, ∈-right, and-T, T-and, all-at, all-from, any-from, any-to}
 use Rattle.meaning.proofs.Bits.{agree-if, all-append, met-if, bit-field, same-bits, asked-bit, digit-is, asks-own, in-below}
 use Rattle.meaning.specs.Masks.{lookOf, wantOf, look, want, passes, compatible}
 
 -- ---- operations bit by bit
 
-bit-and : (i a b : ℕ) → bit i (bitAnd a b) ≡ bitAnd (bit i a) (bit i b)
+pub bit-and : (i a b : ℕ) → bit i (bitAnd a b) ≡ bitAnd (bit i a) (bit i b)
 bit-and i a b = ap (λ (x : ℕ). x % 2) (and-shr a b i) ∙ and-mod (a / 2 ^ i) (b / 2 ^ i) 1
 
-bit-or : (i a b : ℕ) → bit i (bitOr a b) ≡ bitOr (bit i a) (bit i b)
+pub bit-or : (i a b : ℕ) → bit i (bitOr a b) ≡ bitOr (bit i a) (bit i b)
 bit-or i a b = ap (λ (x : ℕ). x % 2) (or-shr a b i) ∙ or-mod (a / 2 ^ i) (b / 2 ^ i) 1
 
-bit-xor : (i a b : ℕ) → bit i (bitXor a b) ≡ bitXor (bit i a) (bit i b)
+pub bit-xor : (i a b : ℕ) → bit i (bitXor a b) ≡ bitXor (bit i a) (bit i b)
 bit-xor i a b = ap (λ (x : ℕ). x % 2) (xor-shr a b i) ∙ xor-mod (a / 2 ^ i) (b / 2 ^ i) 1
 
 bit-lt : (i a : ℕ) → bit i a < 2
 bit-lt i a = mod-lt (a / 2 ^ i) (omega arith)
 
 -- what was shifted up by lo has nothing below lo, and its own bits above
-bit-below : (i lo v : ℕ) → i < lo → bit i (v * 2 ^ lo) ≡ 0
+pub bit-below : (i lo v : ℕ) → i < lo → bit i (v * 2 ^ lo) ≡ 0
 bit-below i lo v h =
     let (d, e) = le-dest h in
     let f : lo ≡ suc d + i = omega (arith, e) in
     rw (f, pow-add 2 (suc d) i, ← mul-assoc, shl-shr) (shifted-even v d)
 
-bit-above : (i lo v : ℕ) → bit (lo + i) (v * 2 ^ lo) ≡ bit i v
+pub bit-above : (i lo v : ℕ) → bit (lo + i) (v * 2 ^ lo) ≡ bit i v
 bit-above i lo v = ap (λ (x : ℕ). x % 2) (sym (shr-shr (v * 2 ^ lo) lo i) ∙ ap (λ (x : ℕ). x / 2 ^ i) (shl-shr v lo))
 
 -- a number below 2 ^ w has no bits from w on, and of 2 ^ w - 1 all bits below w stand
-bit-over : (i w v : ℕ) → v < 2 ^ w → w ≤ i → bit i v ≡ 0
+pub bit-over : (i w v : ℕ) → v < 2 ^ w → w ≤ i → bit i v ≡ 0
 bit-over i w v h k = ap (λ (x : ℕ). x % 2) (div-eq-of-lt (lt-of-lt-of-le h (pow-mono k)))
 
 odd-ones : (d : ℕ) → (2 ^ suc d - 1) % 2 ≡ 1
 odd-ones d = rw (pow-suc 2 d) (omega (arith, pow-pos d))
 
-bit-ones : (j w : ℕ) → j < w → bit j (2 ^ w - 1) ≡ 1
+pub bit-ones : (j w : ℕ) → j < w → bit j (2 ^ w - 1) ≡ 1
 bit-ones j w h =
     let (d, e) = le-dest h in
     let f : w ≡ suc d + j = omega (arith, e) in
     rw (f, ones-split (suc d) j, high (2 ^ suc d - 1) j (ones-lt j)) (odd-ones d)
 
-zero-bit : (i : ℕ) → bit i 0 ≡ 0
+pub zero-bit : (i : ℕ) → bit i 0 ≡ 0
 zero-bit i = bit-over i 0 0 (omega arith) (omega arith)
 
 -- ---- single bits
 
-data Bit : ℕ → Type 0 where
+pub data Bit : ℕ → Type 0 where
   off : Bit 0
   on : Bit 1
 
@@ -70,7 +70,7 @@ is-bit zero h = off
 is-bit (suc zero) h = on
 is-bit (suc (suc x)) h = absurd (omega arith)
 
-bit-is : (i a : ℕ) → Bit (bit i a)
+pub bit-is : (i a : ℕ) → Bit (bit i a)
 bit-is i a = is-bit (bit i a) (bit-lt i a)
 
 differ : _≡_ {A = ℕ} 0 1 → ⊥
@@ -315,3 +315,85 @@ module _ (xs ys : List Literal) (sx : AllSized xs) (sy : AllSized ys) (ax : T (a
   compatible-agree t =
       agree-if both (xs ++ ys)
       (all-append (wireHolds both) xs ys (passes-meets xs sx ax both (passes-left t)) (passes-meets ys sy ay both (passes-right t)))
+
+-- ---- the masks of lists that are joined
+
+or-three : {x y z : ℕ} → Bit x → Bit y → Bit z → bitOr (bitOr x y) z ≡ bitOr x (bitOr y z)
+or-three off off off = refl
+or-three off off on = refl
+or-three off on off = refl
+or-three off on on = refl
+or-three on off off = refl
+or-three on off on = refl
+or-three on on off = refl
+or-three on on on = refl
+
+or-assoc : (a b c : ℕ) → a < 2 ^ 64 → b < 2 ^ 64 → c < 2 ^ 64 → bitOr (bitOr a b) c ≡ bitOr a (bitOr b c)
+or-assoc a b c p q r =
+    same-bits 64 (bitOr (bitOr a b) c) (bitOr a (bitOr b c)) (or-lt 64 (bitOr a b) c (or-lt 64 a b p q) r) (or-lt 64 a (bitOr b c) p (or-lt 64 b c q r))
+    (λ i l. bit-or i (bitOr a b) c ∙ ap (λ (x : ℕ). bitOr x (bit i c)) (bit-or i a b)
+    ∙ or-three (bit-is i a) (bit-is i b) (bit-is i c)
+    ∙ ap (λ (x : ℕ). bitOr (bit i a) x) (sym (bit-or i b c)) ∙ sym (bit-or i a (bitOr b c)))
+
+want-of-small : (l : Literal) → Sized l → wantOf l < 2 ^ 64
+want-of-small (wire lo width v) (p, q) = lt-of-lt-of-le (shl-lt width lo p) (pow-mono (subst (λ (k : ℕ). k ≤ 64) (add-comm lo width) q))
+want-of-small (wire-store lo width s) z = pow-pos 64
+want-of-small (store s v) z = pow-pos 64
+
+-- one mask of each literal, all joined
+module _ (one : Literal → ℕ) (small : (l : Literal) → Sized l → one l < 2 ^ 64) (mask : List Literal → ℕ) (none : mask [] ≡ 0)
+    (some : (l : Literal) (ls : List Literal) → mask (l ∷ ls) ≡ bitOr (one l) (mask ls)) where
+  mask-small : (ls : List Literal) → AllSized ls → mask ls < 2 ^ 64
+  mask-small [] sized = rw none (pow-pos 64)
+  mask-small (l ∷ ls) sized = rw some (or-lt 64 (one l) (mask ls) (small l (sized l (here refl))) (mask-small ls (λ x j. sized x (there j))))
+
+  mask-append : (xs ys : List Literal) → AllSized xs → AllSized ys → mask (xs ++ ys) ≡ bitOr (mask xs) (mask ys)
+  mask-append [] ys sx sy = sym (ap (λ (n : ℕ). bitOr n (mask ys)) none ∙ or-zero-l (mask ys))
+  mask-append (x ∷ xs) ys sx sy =
+      let rest : AllSized xs = λ l j. sx l (there j) in
+      some x (xs ++ ys) ∙ ap (bitOr (one x)) (mask-append xs ys rest sy)
+      ∙ sym (or-assoc (one x) (mask xs) (mask ys) (small x (sx x (here refl))) (mask-small xs rest) (mask-small ys sy))
+      ∙ ap (λ (n : ℕ). bitOr n (mask ys)) (sym (some x xs))
+
+pub look-append : (xs ys : List Literal) → AllSized xs → AllSized ys → look (xs ++ ys) ≡ bitOr (look xs) (look ys)
+unfolding look
+look-append = mask-append lookOf look-of-small look refl (λ l ls. refl)
+
+pub want-append : (xs ys : List Literal) → AllSized xs → AllSized ys → want (xs ++ ys) ≡ bitOr (want xs) (want ys)
+unfolding want
+want-append = mask-append wantOf want-of-small want refl (λ l ls. refl)
+
+pub want-small : (ls : List Literal) → AllSized ls → want ls < 2 ^ 64
+unfolding want
+want-small = mask-small wantOf want-of-small want refl (λ l ls. refl)
+
+same-truth : (a b : Bool) → (T a → T b) → (T b → T a) → a ≡ b
+same-truth true true f g = refl
+same-truth true false f g = absurd (f tt)
+same-truth false true f g = absurd (g tt)
+same-truth false false f g = refl
+
+pub sized-append : (xs ys : List Literal) → AllSized xs → AllSized ys → AllSized (xs ++ ys)
+sized-append xs ys sx sy l i = ⊎-elim (sx l) (sy l) (append-∈ xs i)
+
+-- Lists agree together where each agrees and their masks are compatible.
+pub agree-append : (xs ys : List Literal) → AllSized xs → AllSized ys
+    → agree (xs ++ ys) ≡ ((agree xs && agree ys) && compatible (look xs) (want xs) (look ys) (want ys))
+agree-append xs ys sx sy =
+    same-truth (agree (xs ++ ys)) ((agree xs && agree ys) && compatible (look xs) (want xs) (look ys) (want ys))
+    (λ t.
+    let (w, b, h) = met-if (xs ++ ys) (sized-append xs ys sx sy) t in
+    let ax = agree-if w xs (all-from (wireHolds w) xs (λ l i. all-at (wireHolds w) (∈-left ys i) h)) in
+    let ay = agree-if w ys (all-from (wireHolds w) ys (λ l i. all-at (wireHolds w) (∈-right xs i) h)) in
+    T-and (agree xs && agree ys) _ (T-and (agree xs) (agree ys) ax ay) (agree-compatible xs ys sx sy ax ay t))
+    (λ t.
+    let (a, c) = and-T (agree xs && agree ys) _ t in
+    let (ax, ay) = and-T (agree xs) (agree ys) a in
+    compatible-agree xs ys sx sy ax ay c)
+
+-- One literal agrees with itself.
+pub agree-one : (lo width v : ℕ) → v < 2 ^ width → agree (wire lo width v ∷ []) ≡ true
+agree-one lo width v h =
+    let same : field lo width (v * 2 ^ lo) ≡ v = ap (λ (x : ℕ). x % 2 ^ width) (shl-shr v lo) ∙ mod-eq-of-lt h in
+    same-truth (agree (wire lo width v ∷ [])) true (λ t. tt) (λ t.
+    agree-if (v * 2 ^ lo) (wire lo width v ∷ []) (T-and (eqb (field lo width (v * 2 ^ lo)) v) true (subst (λ (x : ℕ). T (eqb x v)) (sym same) (eqb-refl v)) tt))

@@ -48,7 +48,7 @@ ordered-renumbered k (pipe e f) (o, u) = ap₂ pipe (ordered-renumbered k e o) (
 
 -- ---- numbered in reading order: numbered apart ----
 
-between : (k : ℕ) (e : Exp) → Ordered k e → (l : Letter) → l ∈ letters e → (k ≤ l .number) × (l .number < k + size e)
+pub between : (k : ℕ) (e : Exp) → Ordered k e → (l : Letter) → l ∈ letters e → (k ≤ l .number) × (l .number < k + size e)
 unfolding letters size
 between k (letter x) o l i = let p : l .number ≡ k = ap (λ z. z .number) (one-∈ i) ∙ o in (omega arith, omega arith)
 between k (seq e f) (o, u) l i = ⊎-elim

@@ -92,7 +92,7 @@ follow-in n (pipe e f) x i = ⊎-elim
     (λ k. let (h, m) = follow-in n f x k in (has-right n e f h, ∈-right (letters e) m))
     (append-∈ (follow n e) i)
 
-apart-has : (e f : Exp) (n : ℕ) → Apart e f → Has n e → Has n f → ⊥
+pub apart-has : (e f : Exp) (n : ℕ) → Apart e f → Has n e → Has n f → ⊥
 apart-has e f n a (x, i, p) (y, j, q) = a x y i j (p ∙ sym q)
 
 -- ---- what comes next after a last letter of a part that is not nullable is no first letter of it ----

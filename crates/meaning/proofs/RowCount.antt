@@ -1,6 +1,7 @@
 -- Accepted monitors of at most 256 letters have fewer than 1,024 rows: no star is directly the body of a star.
 use mathlib.Core.List.{List, [], _∷_, map}
-use mathlib.Core.Bool.{not}
+use mathlib.Core.Bool.{Bool, true, false, not, cond}
+use mathlib.Core.Option.{Option, none, some}
 use mathlib.Core.Path.{_≡_, refl, sym, ap₂, subst}
 use Prim.Native.Nat.{ℕ, _+_, _*_, _≤_, _<_}
 use native.Mathlib.Omega.{arith}
@@ -8,7 +9,8 @@ use lib.Dec.{T}
 use Rattle.meaning.specs.Lists.{_∈_, total}
 use Rattle.meaning.specs.Expression.{Exp, letter, seq, alt, star, pipe, size, rows, renumbered}
 use Rattle.meaning.specs.Shape.{nullable, accepted, shape}
-use Rattle.meaning.proofs.ListLaws.{here, there, map-∈}
+use Rattle.meaning.specs.Summary.{orLater, unlessNullable, hollowAt}
+use Rattle.meaning.proofs.ListLaws.{here, there, map-∈, clash}
 use Rattle.meaning.proofs.Step.{Solid}
 use Rattle.meaning.proofs.Numbering.{renumbered-size, renumbered-rows}
 use Rattle.meaning.proofs.Accept.{accept-solid}
@@ -25,6 +27,35 @@ bounds (pipe e f) s = let (a, b) = bounds e (s .2) in let (c, d) = bounds f (s .
 -- one monitor
 pub rows-bound : (m : Exp) → shape m ≡ accepted → rows m + 3 ≤ 4 * size m
 rows-bound m p = let s = accept-solid m p in bounds m (s .1) .1 (s .0)
+
+-- ---- the same from a monitor's summary, before rules 11 and 12 are asked
+
+neither : (a b : Option ℕ) (k : ℕ) → orLater a k b ≡ none → (a ≡ none) × (b ≡ none)
+neither none none k h = (refl, refl)
+neither none (some b) k h = clash (cc)
+neither (some a) b k h = clash (cc)
+
+kept : (e : Exp) (o : Option ℕ) → unlessNullable e o ≡ none → T (not (nullable e)) × (o ≡ none)
+kept e o h = by (nullable e) h
+  where
+    by : (b : Bool) → cond b (some 0) o ≡ none → T (not b) × (o ≡ none)
+    by true h = clash (cc)
+    by false h = (tt, h)
+
+solid-summary : (e : Exp) → hollowAt e ≡ none → Solid e
+unfolding hollowAt
+solid-summary (letter l) h = tt
+solid-summary (seq e f) h = let (a, b) = neither (hollowAt e) (hollowAt f) (size e) h in (solid-summary e a, solid-summary f b)
+solid-summary (alt e f) h = let (a, b) = neither (hollowAt e) (hollowAt f) (size e) h in (solid-summary e a, solid-summary f b)
+solid-summary (star e) h = let (t, a) = kept e (hollowAt e) h in (t, solid-summary e a)
+solid-summary (pipe e f) h =
+    let (a, b) = neither (unlessNullable e (hollowAt e)) (unlessNullable f (hollowAt f)) (size e) h in
+    let (t, x) = kept e (hollowAt e) a in
+    let (u, y) = kept f (hollowAt f) b in
+    (t, u, solid-summary e x, solid-summary f y)
+
+pub rows-summary : (m : Exp) → unlessNullable m (hollowAt m) ≡ none → rows m + 3 ≤ 4 * size m
+rows-summary m h = let (t, a) = kept m (hollowAt m) h in bounds m (solid-summary m a) .1 t
 
 abbrev AllShaped : List Exp → Type 0
 AllShaped ms = (m : Exp) → m ∈ ms → shape m ≡ accepted

@@ -47,11 +47,11 @@ nullable-at m n = (
 
 -- ---- rule 11 ----
 
-some-in : (xs : List Letter) → T (not (null xs)) → (x : Letter) × (x ∈ xs)
+pub some-in : (xs : List Letter) → T (not (null xs)) → (x : Letter) × (x ∈ xs)
 some-in [] t = absurd t
 some-in (x ∷ xs) t = (x, here refl)
 
-in-some : {x : Letter} {xs : List Letter} → x ∈ xs → T (not (null xs))
+pub in-some : {x : Letter} {xs : List Letter} → x ∈ xs → T (not (null xs))
 in-some (here p) = tt
 in-some (there i) = tt
 
@@ -76,7 +76,7 @@ open-end-at m n = (
 
 -- ---- rule 12 ----
 
-threads-letters : (e f : Exp) → f ∈ threads e → (x : Letter) → x ∈ letters f → x ∈ letters e
+pub threads-letters : (e f : Exp) → f ∈ threads e → (x : Letter) → x ∈ letters f → x ∈ letters e
 unfolding threads letters
 threads-letters (letter l) g i x j = absurd (no-∈ i)
 threads-letters (seq e f) g i x j = ⊎-elim
@@ -89,7 +89,7 @@ threads-letters (pipe e f) g i x j = ⊎-elim
     (λ h. ⊎-elim (λ k. ∈-left (letters f) (threads-letters e g k x j)) (λ k. ∈-right (letters e) (threads-letters f g k x j)) (append-∈ (threads e) h))
     (cons-∈ i)
 
-beside-letters : (m : Exp) (x y : Letter) → SideBySide m x y → (x ∈ letters m) × (y ∈ letters m)
+pub beside-letters : (m : Exp) (x y : Letter) → SideBySide m x y → (x ∈ letters m) × (y ∈ letters m)
 unfolding letters
 beside-letters m x y = ⊎-elim
     (λ (i, j). (first-letters m x i, first-letters m y j))

@@ -20,14 +20,14 @@ least-below : (a : ℕ) (bs : List ℕ) → least a bs ≤ a
 least-below a [] = omega arith
 least-below a (b ∷ bs) = omega (arith, least-below (min a b) bs)
 
-least-le : (a : ℕ) (bs : List ℕ) (k : ℕ) → k ∈ a ∷ bs → least a bs ≤ k
+pub least-le : (a : ℕ) (bs : List ℕ) (k : ℕ) → k ∈ a ∷ bs → least a bs ≤ k
 least-le a [] k i = ⊎-elim (λ p. omega arith) (λ j. absurd (no-∈ j)) (cons-∈ i)
 least-le a (b ∷ bs) k i = ⊎-elim
     (λ p. omega (arith, least-below (min a b) bs))
     (λ j. ⊎-elim (λ p. omega (arith, least-below (min a b) bs)) (λ l. least-le (min a b) bs k (there l)) (cons-∈ j))
     (cons-∈ i)
 
-least-in : (a : ℕ) (bs : List ℕ) → least a bs ∈ a ∷ bs
+pub least-in : (a : ℕ) (bs : List ℕ) → least a bs ∈ a ∷ bs
 least-in a [] = here refl
 least-in a (b ∷ bs) = ⊎-elim
     (λ p. ⊎-elim (λ q. here (p ∙ q)) (λ q. there (here (p ∙ q))) (min-either a b))

@@ -13,7 +13,7 @@ use Rattle.meaning.specs.Expression.{Letter, Exp, letter, seq, alt, star
 use Rattle.meaning.specs.Answers.{impossible, hollow, openEnd, fork}
 use Rattle.meaning.specs.Shape.{Shape, accepted, nullable, agree, unsatisfiable, parts, head, nullables, openEnds, ambiguous, least, firstOf, shape}
 use Rattle.meaning.specs.Summary.{counted, orLater, impossibleAt, unlessNullable, hollowAt, turnedAt}
-use Rattle.meaning.proofs.ListLaws.{each-append}
+use Rattle.meaning.proofs.ListLaws.{each-append, clash}
 
 -- ---- 8
 
@@ -88,7 +88,7 @@ shifted-zero : (o : Option ℕ) → shifted 0 o ≡ o
 shifted-zero none = refl
 shifted-zero (some n) = ap some (omega arith)
 
-abbrev Below : ℕ → Option ℕ → Type 0
+abbrev pub Below : ℕ → Option ℕ → Type 0
 Below k none = Unit {0}
 Below k (some n) = n < k
 
@@ -119,7 +119,7 @@ some-letter (pipe e f) = omega (arith, some-letter e)
 
 -- ---- 9
 
-impossible-below : (e : Exp) → Below (size e) (impossibleAt e)
+pub impossible-below : (e : Exp) → Below (size e) (impossibleAt e)
 unfolding size impossibleAt
 impossible-below (letter l) = by (agree (l .literals))
   where
@@ -157,6 +157,18 @@ right-9 k (seq e f) = two-9 k e f (right-9 k e) (right-9 (k + size e) f)
 right-9 k (alt e f) = two-9 k e f (right-9 k e) (right-9 (k + size e) f)
 right-9 k (star e) = right-9 k e
 right-9 k (pipe e f) = two-9 k e f (right-9 k e) (right-9 (k + size e) f)
+
+-- Where the summary names no impossible letter, rule 9 names none.
+pub possible : (m : Exp) → impossibleAt m ≡ none → unsatisfiable (renumbered 0 m) ≡ []
+possible m e = by (unsatisfiable (renumbered 0 m)) (right-9 0 m ∙ ap (shifted 0) e)
+  where
+    none-lower : (n : ℕ) (o : Option ℕ) → lower (some n) o ≡ none → ⊥
+    none-lower n none h = clash (cc)
+    none-lower n (some a) h = clash (cc)
+
+    by : (ns : List ℕ) → lowest ns ≡ none → ns ≡ []
+    by [] h = refl
+    by (n ∷ ns) h = absurd (none-lower n (lowest ns) h)
 
 -- ---- 10
 
@@ -211,7 +223,7 @@ unless-below e o h = by (nullable e)
     by true = some-letter e
     by false = h
 
-hollow-below : (e : Exp) → Below (size e) (hollowAt e)
+pub hollow-below : (e : Exp) → Below (size e) (hollowAt e)
 unfolding size hollowAt
 hollow-below (letter l) = tt
 hollow-below (seq e f) = later-below (size e) (size f) (hollowAt e) (hollowAt f) (hollow-below e) (hollow-below f)

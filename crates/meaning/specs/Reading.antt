@@ -287,7 +287,7 @@ abbrev pub onSemicolon : Names → Open → Exp → List Level → Placed → St
 onSemicolon ns o e [] t = go (declare (newProduction (o .name) (whole (o .level) e)) ns) statement
 onSemicolon ns o e (l ∷ ls) t = notHere t
 
-abbrev isNone : Option Exp → Bool
+abbrev pub isNone : Option Exp → Bool
 isNone none = true
 isNone (some e) = false
 

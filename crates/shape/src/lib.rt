@@ -1,0 +1,40 @@
+// Rules 11 ("open end") and 12 ("fork") for one monitor, on the rows of the table. Its letters are asked 64 at a time, and each time its rows are walked once.
+
+ghost use mathlib.Core.Path.{_≡_};
+ghost use Rattle.shape.specs.Judge.{judgeOf};
+
+mod ends;
+mod sets;
+mod sides;
+mod table;
+
+// What the two rules answer: the letter at fault by its number in the monitor, or none.
+pub enum Judged {
+    Fine,
+    OpenEnd(usize),
+    Fork(usize),
+}
+
+// Judges the monitor whose own row is `row`. Its letters are those from `first` on and below `end`, of all that the table has.
+pub fn judge(
+    kind: &[u8; 1024],
+    left: &[u16; 1024],
+    right: &[u16; 1024],
+    look: &[u64; 256],
+    want: &[u64; 256],
+    row: usize,
+    first: usize,
+    end: usize,
+) -> Judged
+    ensures { λ r. ⌜ r ≡ judgeOf (now (kind .entry)) (now (left .entry)) (now (right .entry)) (now (look .entry)) (now (want .entry)) row first end ⌝ }
+{
+    let open = ends::lowest_open(kind, left, right, row, first, end);
+    if open < end {
+        return Judged::OpenEnd(open - first);
+    }
+    let fork = sides::lowest_fork(kind, left, right, look, want, row, first, end);
+    if fork < end {
+        return Judged::Fork(fork - first);
+    }
+    Judged::Fine
+}
