@@ -1,0 +1,294 @@
+-- What stands at a node is laid: a letter, a star, or an operator of two operands. Assumes nothing.
+use mathlib.Core.Path.{_≡_, refl, sym, _∙_, ap, subst}
+use mathlib.Core.List.{List, [], _∷_, _++_, map}
+use Prim.Native.Nat.{ℕ, suc, _+_, _*_, _<_, _≤_}
+use native.Mathlib.Numerals.{add-one}
+use native.Mathlib.Omega.{arith}
+use lib.ListN.{length, set, length-append}
+use lib.Seq.{sets}
+use Rattle.meaning.specs.Expression.{Letter, Exp, letter, seq, alt, star, pipe, letters, size, rows}
+use Rattle.rules.specs.Words.{part0, part1, part2}
+use Rattle.rules.specs.Cells.{at, Link, Node, Denotes, testsOn, writesOn}
+use Rattle.rules.specs.Laying.{rowCode, rowCodes, RowLists, withRows, slotWord, slotNumber, twoSlots, LetterLists, letterLists, withLetters, LinksAt, SomeLinks, LetterAt, SomeLetter, ExpAt, SomeExp, Stored}
+use Rattle.rules.proofs.Overlay.{row-before, rows-two, letters-behind, one-letter}
+
+-- ---- a letter's words
+
+module _ (P : List ℕ) (n : ℕ) where
+  pub letter-inside : SomeLetter P n → n + 2 < length P
+  unfolding Denotes
+  letter-inside (c, x, s) = omega (arith, s .denotes .1, s .within)
+
+  tests-at : (c : ℕ) (x : Letter) → LetterAt P c n x → LinksAt P c (part1 (at P n)) (testsOn [] (x .literals))
+  unfolding Denotes
+  tests-at c x s = record { within = s .within; links = s .denotes .4 }
+
+  writes-at : (c : ℕ) (x : Letter) → LetterAt P c n x → LinksAt P c (part2 (at P n)) (writesOn [] (x .writes))
+  unfolding Denotes
+  writes-at c x s = record { within = s .within; links = s .denotes .5 }
+
+  pub some-tests : (i : ℕ) → i ≡ part1 (at P n) → SomeLetter P n → SomeLinks P i
+  some-tests i e (c, x, s) = rw e (c, testsOn [] (x .literals), tests-at c x s)
+
+  pub some-writes : (i : ℕ) → i ≡ part2 (at P n) → SomeLetter P n → SomeLinks P i
+  some-writes i e (c, x, s) = rw e (c, writesOn [] (x .writes), writes-at c x s)
+
+  -- what is stored of links
+  abbrev PutLinks : (i at : ℕ) → (A A′ B B′ : List ℕ) → Type 0
+  PutLinks i at A A′ B B′ =
+      (c : ℕ) → (xs : List Link) → LinksAt P c i xs → (A′ ≡ sets A at (map slotWord (twoSlots xs))) × (B′ ≡ sets B at (map slotNumber (twoSlots xs)))
+
+  pub letter-put : (l : ℕ) (A : LetterLists) (C C′ D D′ : List ℕ) (i j : ℕ) → i ≡ part1 (at P n) → j ≡ part2 (at P n)
+      → PutLinks i (4 * l) (A .links) C (A .numbers) D → PutLinks j (4 * l + 2) C C′ D D′
+      → (c : ℕ) → (x : Letter) → LetterAt P c n x → letterLists (set (A .look) l (at P (n + 1))) (set (A .want) l (at P (n + 2))) C′ D′ ≡ withLetters A l (x ∷ [])
+  unfolding Denotes
+  letter-put l A C C′ D D′ i j e f t w c x s =
+      let (p, q) = t c (testsOn [] (x .literals)) (rw e (tests-at c x s)) in
+      let (u, v) = w c (writesOn [] (x .writes)) (rw f (writes-at c x s)) in
+      one-letter A l (at P (n + 1)) (at P (n + 2)) x C C′ D D′ (s .denotes .2) (s .denotes .3) p u q v
+
+-- ---- the three forms
+
+-- an operator of two operands, and its kind
+data Operator : ℕ → (Exp → Exp → Exp) → Type 0 where
+  is-seq : Operator 1 seq
+  is-alt : Operator 2 alt
+  is-pipe : Operator 4 pipe
+
+module _ (e f : Exp) where
+  two-rows : {k : ℕ} {op : Exp → Exp → Exp} → Operator k op → rows (op e f) ≡ 1 + rows e + rows f
+  unfolding rows
+  two-rows is-seq = refl
+  two-rows is-alt = refl
+  two-rows is-pipe = refl
+
+  two-size : {k : ℕ} {op : Exp → Exp → Exp} → Operator k op → size (op e f) ≡ size e + size f
+  unfolding size
+  two-size is-seq = refl
+  two-size is-alt = refl
+  two-size is-pipe = refl
+
+  two-letters : {k : ℕ} {op : Exp → Exp → Exp} → Operator k op → letters (op e f) ≡ letters e ++ letters f
+  unfolding letters
+  two-letters is-seq = refl
+  two-letters is-alt = refl
+  two-letters is-pipe = refl
+
+  two-codes : (r up l : ℕ) {k : ℕ} {op : Exp → Exp → Exp} → Operator k op
+      → rowCodes r up l (op e f) ≡ rowCode k (suc r) (suc r + rows e) up ∷ (rowCodes (suc r) r l e ++ rowCodes (suc r + rows e) r (l + size e) f)
+  unfolding rowCodes
+  two-codes r up l is-seq = refl
+  two-codes r up l is-alt = refl
+  two-codes r up l is-pipe = refl
+
+two-kind : {k : ℕ} {op : Exp → Exp → Exp} → Operator k op → (0 < k) × (k < 5) × (k ≡ 3 → ⊥)
+two-kind is-seq = (omega arith, omega arith, λ e. omega arith)
+two-kind is-alt = (omega arith, omega arith, λ e. omega arith)
+two-kind is-pipe = (omega arith, omega arith, λ e. omega arith)
+
+-- what stands at node n
+data Form (P : List ℕ) (c n : ℕ) : Exp → Type 0 where
+  of-letter : (x : Letter) → part0 (at P n) ≡ 0 → Form P c n (letter x)
+  of-star : (e : Exp) → part0 (at P n) ≡ 3 → part1 (at P n) < n → Denotes P c (part1 (at P n)) e → Form P c n (star e)
+  of-two : (e f : Exp) (k : ℕ) (op : Exp → Exp → Exp) → Operator k op → part0 (at P n) ≡ k → part1 (at P n) < n → part2 (at P n) < n
+      → Denotes P c (part1 (at P n)) e → Denotes P c (part2 (at P n)) f → Form P c n (op e f)
+
+form : (P : List ℕ) (c n : ℕ) (e : Exp) → Denotes P c n e → Form P c n e
+unfolding Denotes Node
+form P c n (letter x) d = of-letter x (d .0 .2)
+form P c n (seq e f) (h, p, q, d, g) = of-two e f 1 seq is-seq (h .2) p q d g
+form P c n (alt e f) (h, p, q, d, g) = of-two e f 2 alt is-alt (h .2) p q d g
+form P c n (star e) (h, p, d) = of-star e (h .2) p d
+form P c n (pipe e f) (h, p, q, d, g) = of-two e f 4 pipe is-pipe (h .2) p q d g
+
+-- ---- room
+
+some-room : (e : Exp) → (1 ≤ rows e) × (1 ≤ size e)
+unfolding rows size
+some-room (letter x) = (omega arith, omega arith)
+some-room (seq e f) = let (a, b) = some-room e in (omega arith, omega arith)
+some-room (alt e f) = let (a, b) = some-room e in (omega arith, omega arith)
+some-room (star e) = let (a, b) = some-room e in (omega arith, omega arith)
+some-room (pipe e f) = let (a, b) = some-room e in (omega arith, omega arith)
+
+two-long : (r l : ℕ) (e f : Exp) → length (rowCodes (suc r) r l e) ≡ rows e → length (rowCodes (suc r + rows e) r (l + size e) f) ≡ rows f
+    → suc (length (rowCodes (suc r) r l e ++ rowCodes (suc r + rows e) r (l + size e) f)) ≡ 1 + rows e + rows f
+two-long r l e f p q = omega (arith, length-append (rowCodes (suc r) r l e) (rowCodes (suc r + rows e) r (l + size e) f))
+
+pub codes-long : (r up l : ℕ) (e : Exp) → length (rowCodes r up l e) ≡ rows e
+unfolding rowCodes rows
+codes-long r up l (letter x) = refl
+codes-long r up l (seq e f) = two-long r l e f (codes-long (suc r) r l e) (codes-long (suc r + rows e) r (l + size e) f)
+codes-long r up l (alt e f) = two-long r l e f (codes-long (suc r) r l e) (codes-long (suc r + rows e) r (l + size e) f)
+codes-long r up l (star e) = let p = codes-long (suc r) r l e in omega arith
+codes-long r up l (pipe e f) = two-long r l e f (codes-long (suc r) r l e) (codes-long (suc r + rows e) r (l + size e) f)
+
+pub letters-long : (e : Exp) → length (letters e) ≡ size e
+unfolding letters size
+letters-long (letter x) = refl
+letters-long (seq e f) = omega (arith, length-append (letters e) (letters f), letters-long e, letters-long f)
+letters-long (alt e f) = omega (arith, length-append (letters e) (letters f), letters-long e, letters-long f)
+letters-long (star e) = letters-long e
+letters-long (pipe e f) = omega (arith, length-append (letters e) (letters f), letters-long e, letters-long f)
+
+-- ---- laying
+
+module _ (P : List ℕ) (n row index : ℕ) where
+  pub node-inside : SomeExp P n row index → n < length P
+  unfolding Denotes Node
+  node-inside (c, letter x, s) = omega (arith, s .denotes .0 .1, s .within)
+  node-inside (c, seq e f, s) = omega (arith, s .denotes .0 .1, s .within)
+  node-inside (c, alt e f, s) = omega (arith, s .denotes .0 .1, s .within)
+  node-inside (c, star e, s) = omega (arith, s .denotes .0 .1, s .within)
+  node-inside (c, pipe e f, s) = omega (arith, s .denotes .0 .1, s .within)
+
+  pub first-room : SomeExp P n row index → (row < 1024) × (index < 256)
+  first-room (c, e, s) = let (a, b) = some-room e in (omega (arith, s .room), omega (arith, s .space))
+
+  -- whatever expression stands there is laid
+  abbrev pub Lays : (up : ℕ) → (R R′ : RowLists) → (L L′ : LetterLists) → (r l : ℕ) → Type 0
+  Lays up R R′ L L′ r l = (c : ℕ) → (e : Exp) → ExpAt P c n row index e → Stored row up index e R R′ L L′ r l
+
+-- ---- a letter
+
+module _ (P : List ℕ) (n row index k : ℕ) (q : k ≡ part0 (at P n)) (z : k ≡ 0) where
+  a-letter : (c : ℕ) {g : Exp} → Form P c n g → (x : Letter) × (g ≡ letter x)
+  a-letter c (of-letter x h) = (x, refl)
+  a-letter c (of-star e h p d) = absurd (omega arith)
+  a-letter c (of-two e f k op o h p i d g) = let a = two-kind o .0 in absurd (omega arith)
+
+  letter-at : (c : ℕ) (g : Exp) → ExpAt P c n row index g → (x : Letter) × (g ≡ letter x) × LetterAt P c n x
+  letter-at c g s =
+      let (x, e) = a-letter c (form P c n g (s .denotes)) in
+      (x, e, record { within = s .within; denotes = subst (Denotes P c n) e (s .denotes) })
+
+  pub some-letter : SomeExp P n row index → SomeLetter P n
+  some-letter (c, g, s) = let (x, e, t) = letter-at c g s in (c, x, t)
+
+  pub letter-lays : (up : ℕ) (R R′ : RowLists) (L L′ : LetterLists) → ((c : ℕ) → (x : Letter) → LetterAt P c n x → L′ ≡ withLetters L index (x ∷ []))
+      → R′ ≡ withRows R row (rowCode 0 index 0 up ∷ []) → Lays P n row index up R R′ L L′ (row + 1) (index + 1)
+  unfolding rowCodes letters rows size
+  letter-lays up R R′ L L′ a b c g s =
+      let (x, e, t) = letter-at c g s in
+      subst (λ (g : Exp). Stored row up index g R R′ L L′ (row + 1) (index + 1)) (sym e)
+      record { rows-stored = b; letters-stored = a c x t; next-row = refl; next-letter = refl }
+
+-- ---- an operator's first operand
+
+module _ (P : List ℕ) (n row index k i : ℕ) (q : k ≡ part0 (at P n)) (b : i ≡ part1 (at P n)) where
+  first-of : (c : ℕ) {g : Exp} → Form P c n g → (k ≡ 0 → ⊥) → (i < n) × ((e : Exp) × Denotes P c i e × (1 + rows e ≤ rows g) × (size e ≤ size g))
+  unfolding rows size
+  first-of c (of-letter x h) z = absurd (z (q ∙ h))
+  first-of c (of-star e h p d) z = (omega arith, (e, rw b d, omega arith, omega arith))
+  first-of c (of-two e f k op o h p j d g) z = (omega arith, (e, rw b d, omega (arith, two-rows e f o), omega (arith, two-size e f o)))
+
+  pub some-first : (k ≡ 0 → ⊥) → SomeExp P n row index → (i < n) × SomeExp P i (row + 1) index
+  some-first z (c, g, s) =
+      let (l, (e, d, x, y)) = first-of c (form P c n g (s .denotes)) z in
+      (l, (c, e, record { within = s .within; denotes = d; room = omega (arith, s .room); space = omega (arith, s .space) }))
+
+  -- ---- a star
+
+  a-star : (c : ℕ) {g : Exp} → Form P c n g → k ≡ 3 → (e : Exp) × (g ≡ star e) × Denotes P c i e
+  a-star c (of-letter x h) z = absurd (omega arith)
+  a-star c (of-star e h p d) z = (e, refl, rw b d)
+  a-star c (of-two e f k op o h p j d g) z = absurd (two-kind o .2 (sym h ∙ sym q ∙ z))
+
+  pub star-lays : k ≡ 3 → (up : ℕ) (R R₁ R′ : RowLists) (L L′ : LetterLists) (r l : ℕ) → Lays P i (row + 1) index row R R₁ L L′ r l
+      → R′ ≡ withRows R₁ row (rowCode 3 (row + 1) 0 up ∷ []) → Lays P n row index up R R′ L L′ r l
+  unfolding rowCodes letters rows size
+  star-lays z up R R₁ R′ L L′ r l a m c g s =
+      let (e, w, d) = a-star c (form P c n g (s .denotes)) z in
+      let x : row + rows (star e) ≤ 1024 = rw w at (s .room) in
+      let y : index + size (star e) ≤ 256 = rw w at (s .space) in
+      let t = a c e (record { within = s .within; denotes = d; room = omega arith; space = y }) in
+      subst (λ (g : Exp). Stored row up index g R R′ L L′ r l) (sym w)
+      record {
+        rows-stored = m ∙ ap (λ (A : RowLists). withRows A row (rowCode 3 (row + 1) 0 up ∷ [])) (t .rows-stored) ∙ rw (add-one row) (row-before R row (rowCodes (suc row) row index e) (rowCode 3 (suc row) 0 up));
+        letters-stored = t .letters-stored;
+        next-row = omega (arith, t .next-row);
+        next-letter = t .next-letter;
+      }
+
+-- ---- an operator of two operands
+
+record Two (P : List ℕ) (c n k i j : ℕ) (g : Exp) : Type 0 where
+  e : Exp
+  f : Exp
+  op : Exp → Exp → Exp
+  operator : Operator k op
+  whole : g ≡ op e f
+  falls : j < n
+  first : Denotes P c i e
+  second : Denotes P c j f
+
+-- what is known of them when the first is laid
+pub record Operands (P : List ℕ) (n row k j next from : ℕ) : Type 0 where
+  pub falls : j < n
+  pub small : k < 5
+  pub below : row + 1 < 1024
+  pub room : next < 1024
+  pub stands : SomeExp P j next from
+
+module _ (P : List ℕ) (n row index k i j : ℕ) (q : k ≡ part0 (at P n)) (b : i ≡ part1 (at P n)) (b′ : j ≡ part2 (at P n)) (z : k ≡ 0 → ⊥) (y : k ≡ 3 → ⊥) where
+  two : (c : ℕ) {g : Exp} → Form P c n g → Two P c n k i j g
+  two c (of-letter x h) = absurd (z (q ∙ h))
+  two c (of-star e h p d) = absurd (y (q ∙ h))
+  two c (of-two e f m op o h p p′ d d′) = record {
+    e = e;
+    f = f;
+    op = op;
+    operator = subst (λ (x : ℕ). Operator x op) (sym (q ∙ h)) o;
+    whole = refl;
+    falls = omega arith;
+    first = rw b d;
+    second = rw b′ d′;
+  }
+
+  module _ (c : ℕ) (g : Exp) (s : ExpAt P c n row index g) (w : Two P c n k i j g) where
+    whole-rows : rows g ≡ 1 + rows (w .e) + rows (w .f)
+    whole-rows = ap rows (w .whole) ∙ two-rows (w .e) (w .f) (w .operator)
+
+    whole-size : size g ≡ size (w .e) + size (w .f)
+    whole-size = ap size (w .whole) ∙ two-size (w .e) (w .f) (w .operator)
+
+    whole-codes : (up next from : ℕ) → next ≡ row + 1 + rows (w .e) → from ≡ index + size (w .e)
+        → rowCode k (row + 1) next up ∷ (rowCodes (row + 1) row index (w .e) ++ rowCodes next row from (w .f)) ≡ rowCodes row up index g
+    whole-codes up next from a b = rw (a, b, add-one row) (sym (ap (rowCodes row up index) (w .whole) ∙ two-codes (w .e) (w .f) row up index (w .operator)))
+
+    first-at : ExpAt P c i (row + 1) index (w .e)
+    first-at = record { within = s .within; denotes = w .first; room = omega (arith, s .room, whole-rows); space = omega (arith, s .space, whole-size) }
+
+    second-at : (next from : ℕ) → next ≡ row + 1 + rows (w .e) → from ≡ index + size (w .e) → ExpAt P c j next from (w .f)
+    second-at next from a b = record { within = s .within; denotes = w .second; room = omega (arith, s .room, whole-rows); space = omega (arith, s .space, whole-size) }
+
+  module _ (R R₁ : RowLists) (L L₁ : LetterLists) (next from : ℕ) (a : Lays P i (row + 1) index row R R₁ L L₁ next from) where
+    pub operands : SomeExp P n row index → Operands P n row k j next from
+    operands (c, g, s) =
+        let w = two c (form P c n g (s .denotes)) in
+        let t = a c (w .e) (first-at c g s w) in
+        let v : SomeExp P j next from = (c, w .f, second-at c g s w next from (t .next-row) (t .next-letter)) in
+        record {
+          falls = w .falls;
+          small = two-kind (w .operator) .1;
+          below = first-room P i (row + 1) index (c, w .e, first-at c g s w) .0;
+          room = first-room P j next from v .0;
+          stands = v;
+        }
+
+    pub two-lays : (up : ℕ) (R₂ R′ : RowLists) (L′ : LetterLists) (r l : ℕ) → Lays P j next from row R₁ R₂ L₁ L′ r l
+        → R′ ≡ withRows R₂ row (rowCode k (row + 1) next up ∷ []) → Lays P n row index up R R′ L L′ r l
+    two-lays up R₂ R′ L′ r l d m c g s =
+        let w = two c (form P c n g (s .denotes)) in
+        let t = a c (w .e) (first-at c g s w) in
+        let u = d c (w .f) (second-at c g s w next from (t .next-row) (t .next-letter)) in
+        record {
+          rows-stored = rows-two R R₁ R₂ R′ row next (rowCode k (row + 1) next up) (rowCodes (row + 1) row index (w .e)) (rowCodes next row from (w .f))
+              (omega (arith, t .next-row, codes-long (row + 1) row index (w .e))) (t .rows-stored) (u .rows-stored) m
+              ∙ ap (withRows R row) (whole-codes c g s w up next from (t .next-row) (t .next-letter));
+          letters-stored = u .letters-stored ∙ ap (λ (A : LetterLists). withLetters A from (letters (w .f))) (t .letters-stored)
+              ∙ letters-behind L index (letters (w .e)) from (letters (w .f)) (omega (arith, t .next-letter, letters-long (w .e)))
+              ∙ ap (withLetters L index) (sym (ap letters (w .whole) ∙ two-letters (w .e) (w .f) (w .operator)));
+          next-row = omega (arith, t .next-row, u .next-row, whole-rows c g s w);
+          next-letter = omega (arith, t .next-letter, u .next-letter, whole-size c g s w);
+        }

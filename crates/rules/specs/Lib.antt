@@ -1,0 +1,15 @@
+-- What the words that a text is read into stand for.
+pub mod Words
+pub mod Seen
+pub mod Cells
+pub mod Reads
+pub mod Conditions
+pub mod Picks
+pub mod Tasks
+pub mod Written
+pub mod Expressions
+pub mod Scopes
+pub mod Laying
+pub mod Parts
+pub mod Monitors
+pub mod Watches

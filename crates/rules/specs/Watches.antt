@@ -1,0 +1,56 @@
+-- What `open` answers with: the counts and a watch, or a refusal and an empty watch. Assumes nothing.
+use mathlib.Core.Bool.{false}
+use mathlib.Core.List.{List, []}
+use Prim.Native.Nat.{ℕ}
+use lib.ListN.{length, replicate}
+use lib.Seq.{sets}
+use Rattle.meaning.specs.Answers as meaning
+use Rattle.meaning.specs.Opening.{Opened}
+use Rattle.rules.specs.Laying.{rowLists, letterLists}
+use Rattle.rules.specs.Monitors.{Lists, lists, withMonitors}
+use Rattle.rules.specs.declared.Watch.{Watch}
+use Rattle.rules.specs.declared.Outcome.{Outcome}
+use Rattle.rules.specs.declared.Outcome.the-variants.{Open, AtByte, AtLetter}
+
+-- no rows, no letters, no monitors
+abbrev pub noLists : Lists
+noLists =
+    lists (rowLists (replicate 1024 0) (replicate 1024 0) (replicate 1024 0) (replicate 1024 0))
+    (letterLists (replicate 256 0) (replicate 256 0) (replicate 1024 0) (replicate 1024 0)) (replicate 32 0) (replicate 32 0)
+
+-- a watch of these arrays: "tick count 0, first store values and one start mark a monitor"
+abbrev pub watchBy : Lists → (rows letters monitors wires : ℕ) → (initial : List ℕ) → Watch
+watchBy A r l m w vs =
+    record {
+      kind = A .rows-of .kind;
+      left = A .rows-of .left;
+      right = A .rows-of .right;
+      up = A .rows-of .up;
+      look = A .letters-of .look;
+      want = A .letters-of .want;
+      links = A .letters-of .links;
+      numbers = A .letters-of .numbers;
+      own = A .own;
+      firsts = A .firsts;
+      rows = r;
+      letters = l;
+      monitors = m;
+      wires = w;
+      stores = length vs;
+      values = sets (replicate 16 0) 0 vs;
+      marks = sets (replicate 288 0) 256 (replicate m 1);
+      ticks = 0;
+      stopped = false;
+    }
+
+-- the watch of an opened text; a refusal opens none
+unfoldable pub watchOf : meaning.Answer Opened → Watch
+watchOf (meaning.value o) = watchBy (withMonitors noLists 0 0 0 (o .monitors)) (o .rowCount) (o .letterCount) (length (o .monitors)) (o .wires) (o .initial)
+watchOf (meaning.refused n p) = watchBy noLists 0 0 0 0 []
+
+-- the answer; opening names no tick
+unfoldable pub outcomeOf : meaning.Answer Opened → Outcome
+outcomeOf (meaning.value o) = Open (o .rowCount) (o .letterCount)
+outcomeOf (meaning.refused n (meaning.byte p)) = AtByte n p
+outcomeOf (meaning.refused n (meaning.letterOf m l)) = AtLetter n m l
+outcomeOf (meaning.refused n (meaning.tick t)) = AtByte n t

@@ -1,0 +1,249 @@
+// Laying the rows and letters of an expression: from the words that a text is read into to the lists of numbers that a
+// watch's table has (specs/Laying.antt).
+use super::words::part0;
+use super::words::part1;
+use super::words::part2;
+use super::words::part3;
+use super::words::quad;
+ghost use mathlib.Core.Path.{_≡_};
+ghost use mathlib.Core.List.{List, [], _∷_, map};
+ghost use mathlib.Core.Option.{Option};
+ghost use Prim.Native.Nat.{ℕ, _+_, _<_};
+ghost use lib.Seq.{sets};
+ghost use Rattle.meaning.specs.Expression.{Letter, Exp};
+ghost use Rattle.rules.specs.Words.{part0, part1, part2};
+ghost use Rattle.rules.specs.Cells.{Link, Links};
+ghost use Rattle.rules.specs.Laying.{rowCode, rowLists, withRows, linkWord, ones, linkNumber, slotWord, slotNumber, twoSlots, behind, letterLists, withLetters, SlotAt, SomeSlot, LinksAt, SomeLinks, LetterAt, SomeLetter, ExpAt, SomeExp, Stored};
+
+// The kinds of rows that are told apart: a letter, and a star.
+const LETTER: usize = 0;
+
+const STAR: usize = 3;
+
+// ---- links
+
+// As many ones, 64 at most.
+fn ones(width: usize) -> u64
+    ensures { λ r. ⌜ r ≡ ones width ⌝ }
+{
+    if width < 64 {
+        return (1u64 << width) - 1;
+    }
+    18446744073709551615
+}
+
+// A link's first number, from its first word: its store with 2, or with 1 and the first of its wires.
+fn link_word(word: u64) -> u64
+    ensures { λ r. ⌜ r ≡ linkWord (part0 word) (part1 word) (part2 word) ⌝ }
+{
+    let store = part0(word);
+    if part2(word) == 0 {
+        return quad(store, 2, 0, 0);
+    }
+    quad(store, 1, part1(word), 0)
+}
+
+// A link's second number: its own, or the ones of its width.
+fn link_number(width: usize, number: u64) -> u64
+    ensures { λ r. ⌜ r ≡ linkNumber width number ⌝ }
+{
+    if width == 0 {
+        return number;
+    }
+    ones(width)
+}
+
+// The numbers of the link at an index; 0 where there is none.
+fn slot_word(words: &[u64], cell: usize) -> u64
+    requires { ⌜ SomeSlot (now words) cell ⌝ }
+    ensures { λ r. ⌜ ((c : ℕ) → (o : Option Link) → SlotAt (now (words .entry)) c cell o → r ≡ slotWord o) ⌝ }
+{
+    if cell == 0 {
+        return 0;
+    }
+    link_word(words[cell])
+}
+
+fn slot_number(words: &[u64], cell: usize) -> u64
+    requires { ⌜ SomeSlot (now words) cell ⌝ }
+    ensures { λ r. ⌜ ((c : ℕ) → (o : Option Link) → SlotAt (now (words .entry)) c cell o → r ≡ slotNumber o) ⌝ }
+{
+    if cell == 0 {
+        return 0;
+    }
+    link_number(part2(words[cell]), words[cell + 1])
+}
+
+// The index of the link behind the one at an index; 0 where there is none.
+fn behind(words: &[u64], cell: usize) -> usize
+    requires { ⌜ SomeLinks (now words) cell ⌝ }
+    ensures { λ r. ⌜ ((c : ℕ) → (xs : List Link) → LinksAt (now (words .entry)) c cell xs → Links (now (words .entry)) c r (behind xs)) ⌝ }
+{
+    if cell == 0 {
+        return 0;
+    }
+    part3(words[cell])
+}
+
+// Stores the links at two indices in two slots.
+fn put_two(
+    words: &[u64],
+    first: usize,
+    second: usize,
+    at: usize,
+    links: &mut [u64; 1024],
+    numbers: &mut [u64; 1024],
+)
+    requires { ⌜ (at + 1 < 1024) × SomeSlot (now words) first × SomeSlot (now words) second ⌝ }
+    ensures { λ _. ⌜ ((c : ℕ) → (o : Option Link) → (p : Option Link) → SlotAt (now (words .entry)) c first o → SlotAt (now (words .entry)) c second p
+        → (now (links .exit) ≡ sets (now (links .entry)) at (slotWord o ∷ slotWord p ∷ [])) × (now (numbers .exit) ≡ sets (now (numbers .entry)) at (slotNumber o ∷ slotNumber p ∷ []))) ⌝ }
+{
+    links[at] = slot_word(words, first);
+    links[at + 1] = slot_word(words, second);
+    numbers[at] = slot_number(words, first);
+    numbers[at + 1] = slot_number(words, second);
+}
+
+// Stores links, which come the last first, as two slots in the order of the text; of more than two the last two.
+fn put_links(
+    words: &[u64],
+    cell: usize,
+    at: usize,
+    links: &mut [u64; 1024],
+    numbers: &mut [u64; 1024],
+)
+    requires { ⌜ (at + 1 < 1024) × SomeLinks (now words) cell ⌝ }
+    ensures { λ _. ⌜ ((c : ℕ) → (xs : List Link) → LinksAt (now (words .entry)) c cell xs
+        → (now (links .exit) ≡ sets (now (links .entry)) at (map slotWord (twoSlots xs))) × (now (numbers .exit) ≡ sets (now (numbers .entry)) at (map slotNumber (twoSlots xs)))) ⌝ }
+{
+    let next = behind(words, cell);
+    if next == 0 {
+        put_two(words, cell, 0, at, links, numbers);
+        return;
+    }
+    put_two(words, next, cell, at, links, numbers);
+}
+
+// ---- letters and rows
+
+// Stores the letter at a node.
+fn put_letter(
+    words: &[u64],
+    node: usize,
+    letter: usize,
+    look: &mut [u64; 256],
+    want: &mut [u64; 256],
+    links: &mut [u64; 1024],
+    numbers: &mut [u64; 1024],
+)
+    requires { ⌜ (letter < 256) × SomeLetter (now words) node ⌝ }
+    ensures { λ _. ⌜ ((c : ℕ) → (x : Letter) → LetterAt (now (words .entry)) c node x
+        → letterLists (now (look .exit)) (now (want .exit)) (now (links .exit)) (now (numbers .exit))
+        ≡ withLetters (letterLists (now (look .entry)) (now (want .entry)) (now (links .entry)) (now (numbers .entry))) letter (x ∷ [])) ⌝ }
+{
+    look[letter] = words[node + 1];
+    want[letter] = words[node + 2];
+    let head = words[node];
+    put_links(words, part1(head), 4 * letter, links, numbers);
+    put_links(words, part2(head), 4 * letter + 2, links, numbers);
+}
+
+// Stores a row.
+fn put_row(
+    row: usize,
+    k: usize,
+    l: usize,
+    r: usize,
+    u: usize,
+    kind: &mut [u8; 1024],
+    left: &mut [u16; 1024],
+    right: &mut [u16; 1024],
+    up: &mut [u16; 1024],
+)
+    requires { ⌜ (row < 1024) × (k < 5) × (l < 1024) × (r < 1024) × (u < 1024) ⌝ }
+    ensures { λ _. ⌜ rowLists (now (kind .exit)) (now (left .exit)) (now (right .exit)) (now (up .exit)) ≡ withRows (rowLists (now (kind .entry)) (now (left .entry)) (now (right .entry)) (now (up .entry))) row (rowCode k l r u ∷ []) ⌝ }
+{
+    kind[row] = k as u8;
+    left[row] = l as u16;
+    right[row] = r as u16;
+    up[row] = u as u16;
+}
+
+// The next row and letter.
+pub(crate) struct Laid {
+    pub(crate) row: usize,
+    pub(crate) letter: usize,
+}
+
+// Lays the expression at a node from a row and a letter on, as an operand of row `above`.
+pub(crate) fn lay(
+    words: &[u64],
+    node: usize,
+    row: usize,
+    above: usize,
+    letter: usize,
+    kind: &mut [u8; 1024],
+    left: &mut [u16; 1024],
+    right: &mut [u16; 1024],
+    up: &mut [u16; 1024],
+    look: &mut [u64; 256],
+    want: &mut [u64; 256],
+    links: &mut [u64; 1024],
+    numbers: &mut [u64; 1024],
+) -> Laid
+    requires { ⌜ (above < 1024) × SomeExp (now words) node row letter ⌝ }
+    ensures { λ r. ⌜ ((c : ℕ) → (e : Exp) → ExpAt (now (words .entry)) c node row letter e
+        → Stored row above letter e
+        (rowLists (now (kind .entry)) (now (left .entry)) (now (right .entry)) (now (up .entry))) (rowLists (now (kind .exit)) (now (left .exit)) (now (right .exit)) (now (up .exit)))
+        (letterLists (now (look .entry)) (now (want .entry)) (now (links .entry)) (now (numbers .entry))) (letterLists (now (look .exit)) (now (want .exit)) (now (links .exit)) (now (numbers .exit)))
+        (r .row) (r .letter)) ⌝ }
+{
+    let head = words[node];
+    let k = part0(head);
+    if k == LETTER {
+        put_letter(words, node, letter, look, want, links, numbers);
+        put_row(row, LETTER, letter, 0, above, kind, left, right, up);
+        return Laid {
+            row: row + 1,
+            letter: letter + 1,
+        };
+    }
+    let first = lay(
+        words,
+        part1(head),
+        row + 1,
+        row,
+        letter,
+        kind,
+        left,
+        right,
+        up,
+        look,
+        want,
+        links,
+        numbers,
+    );
+    let next = first.row;
+    if k == STAR {
+        put_row(row, STAR, row + 1, 0, above, kind, left, right, up);
+        return first;
+    }
+    let from = first.letter;
+    let second = lay(
+        words,
+        part2(head),
+        next,
+        row,
+        from,
+        kind,
+        left,
+        right,
+        up,
+        look,
+        want,
+        links,
+        numbers,
+    );
+    put_row(row, k, row + 1, next, above, kind, left, right, up);
+    second
+}
