@@ -18,7 +18,8 @@ use Rattle.rules.specs.declared.declarations.Declared.{Declared}
 use Rattle.rules.specs.Words.{quad, part0, part1, part2, part3}
 use Rattle.rules.specs.Cells.{at, Means, Cells, Declared as SomeNames}
 use Rattle.rules.specs.Reads.{readFrom, fine, faulted, Behind, NumberRead}
-use Rattle.rules.specs.Conditions.{Room}
+use Rattle.rules.specs.Conditions.{Extends, Room}
+use Rattle.rules.specs.Defined.{HeadAt}
 use Rattle.rules.specs.Scopes.{Known, Ready, Refuses, Declares, NewAt, NameRead, NameWritten, Wide, WidthRead}
 use Rattle.rules.proofs.Numbers.{quad-0, quad-1, quad-2, quad-3}
 use Rattle.rules.proofs.Put.{put-both, put-first, put-second}
@@ -46,18 +47,23 @@ put-name P c kind last place size a b room k l p s m n =
       second = ap part1 tail ∙ quad-1 a b 0 0 m n (omega arith) (omega arith);
     }
 
--- a name more, before those that there are
-pub name-added : (text P : List ℕ) (c kind last place size a b : ℕ) (Q : List ℕ) (es : List (Entry Meaning)) (m : Meaning) → 1 ≤ c → last < c → place + size ≤ length text
-    → Cells text P c last es → NameWritten P c kind last place size a b Q → Means Q (c + 2) c m → Cells text Q (c + 2) c (withName (take size (drop place text)) m es)
+-- a name more, before those that there are, whatever it means and however long its cell is
+pub cell-added : (text P : List ℕ) (c : ℕ) (Q : List ℕ) (h d last place size : ℕ) (es : List (Entry Meaning)) (m : Meaning) → 1 ≤ h → last < h → h < d → place + size ≤ length text
+    → Cells text P c last es → Extends P c Q d → HeadAt Q h last place size → Means Q d h m → Cells text Q d h (withName (take size (drop place text)) m es)
 unfolding Cells
-name-added text P c kind last place size a b Q es m some low inside k w y = (
-  omega arith,
-  omega arith,
-  record { inside = omega (arith, w .from, w .long); bytes = ap (λ (n : ℕ). take n (drop (part2 (at Q c)) text)) (w .long) ∙ ap (λ (n : ℕ). take size (drop n text)) (w .from) },
+cell-added text P c Q h d last place size es m some low more inside k x w y = (
+  some,
+  more,
+  record { inside = omega (arith, w .from, w .long); bytes = ap (λ (n : ℕ). take n (drop (part2 (at Q h)) text)) (w .long) ∙ ap (λ (n : ℕ). take size (drop n text)) (w .from) },
   y,
   omega (arith, w .back),
-  subst (λ (h : ℕ). Cells text Q (c + 2) h es) (sym (w .back)) (cells-kept P c Q (c + 2) (w .extends) text last es k),
+  subst (λ (j : ℕ). Cells text Q d j es) (sym (w .back)) (cells-kept P c Q d x text last es k),
 )
+
+pub name-added : (text P : List ℕ) (c kind last place size a b : ℕ) (Q : List ℕ) (es : List (Entry Meaning)) (m : Meaning) → 1 ≤ c → last < c → place + size ≤ length text
+    → Cells text P c last es → NameWritten P c kind last place size a b Q → Means Q (c + 2) c m → Cells text Q (c + 2) c (withName (take size (drop place text)) m es)
+name-added text P c kind last place size a b Q es m some low inside k w y =
+    cell-added text P c Q c (c + 2) last place size es m some low (omega arith) inside k (w .extends) (record { back = w .back; from = w .from; long = w .long }) y
 
 -- ---- what the functions are given
 
@@ -138,12 +144,12 @@ module _ (text P : List ℕ) (pos : ℕ) (scope : Scope) (f place after : ℕ) (
     pub input-no-name : (f ≡ 0 → ⊥) → Declares text inputName P S pos c scope (answered f place c scope) P S
     input-no-name n =
         refuse text inputName P S pos c scope _ n (λ ns k.
-        name-refused text P scope pos _ false f place after name c ns (k .cells) (k .count) inputName _ (new-wire ns k) n)
+        name-refused text P scope pos _ false f place after name c ns (k .cells) (k .count) inputName _ (new-wire ns k _) n)
 
     module _ (z : f ≡ 0) (g a width : ℕ) (wide : WidthRead text after 0 (64 - scope .wires) g a width) where
       -- behind the name
       behind-wire : (ns : Names) → Known text P S c scope ns → readFrom text pos ns inputName ≡ readFrom text after ns (inputMore (take (after - place) (drop place text)))
-      behind-wire ns k = name-on text P scope pos _ false f place after name c ns (k .cells) (k .count) inputName _ (new-wire ns k) z
+      behind-wire ns k = name-on text P scope pos _ false f place after name c ns (k .cells) (k .count) inputName _ (new-wire ns k _) z
 
       pub input-no-width : (g ≡ 0 → ⊥) → Declares text inputName P S pos c scope (answered g a c scope) P S
       unfolding WidthRead
@@ -222,7 +228,7 @@ module _ (text P : List ℕ) (pos : ℕ) (scope : Scope) (f place after : ℕ) (
     pub store-no-name : (f ≡ 0 → ⊥) → Declares text storeName P S pos c scope (answered f place c scope) P S
     store-no-name n =
         refuse text storeName P S pos c scope _ n (λ ns k.
-        name-refused text P scope pos false _ f place after name c ns (k .cells) (k .count) storeName _ (new-store ns k) n)
+        name-refused text P scope pos false _ f place after name c ns (k .cells) (k .count) storeName _ (new-store ns k _) n)
 
     module _ (z : f ≡ 0) (g a width : ℕ) (wide : WidthRead text after 13 64 g a width) where
       -- the name's bytes
@@ -230,7 +236,7 @@ module _ (text P : List ℕ) (pos : ℕ) (scope : Scope) (f place after : ℕ) (
       bytes = take (after - place) (drop place text)
 
       behind-store : (ns : Names) → Known text P S c scope ns → readFrom text pos ns storeName ≡ readFrom text after ns (storeMore bytes)
-      behind-store ns k = name-on text P scope pos false _ f place after name c ns (k .cells) (k .count) storeName _ (new-store ns k) z
+      behind-store ns k = name-on text P scope pos false _ f place after name c ns (k .cells) (k .count) storeName _ (new-store ns k _) z
 
       pub store-no-width : (g ≡ 0 → ⊥) → Declares text storeName P S pos c scope (answered g a c scope) P S
       unfolding WidthRead

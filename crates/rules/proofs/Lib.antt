@@ -14,12 +14,14 @@ pub mod WriteSteps
 pub mod NewNames
 pub mod Widths
 pub mod Declaring
+pub mod Defining
 pub mod Slots
 pub mod Overlay
 pub mod Placing
 pub mod TableRows
 pub mod Summing
 pub mod PartLaws
+pub mod Bodies
 pub mod LetterSteps
 pub mod Operating
 pub mod RowsStand
@@ -30,3 +32,6 @@ pub mod AllMonitors
 pub mod Turning
 pub mod Expressing
 pub mod Starting
+pub mod MonitorSteps
+pub mod StatementSteps
+pub mod TextOpened

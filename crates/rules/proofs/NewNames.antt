@@ -111,12 +111,13 @@ module _ (text P : List ℕ) (scope : Scope) (pos : ℕ) (noWire full : Bool) (f
   name-read z = well r z
 
   module _ (c : ℕ) (ns : Names) (k : Cells text P c (scope .last) (ns .declared)) (n : scope .count ≡ length (ns .declared)) (x : Expect) (next : List ℕ → Step)
-      (new : (t : Placed) → step ns x t ≡ newName ns t noWire full next) where
+      (new : step ns x (tokenAt text pos) ≡ newName ns (tokenAt text pos) noWire full next) where
     pub name-refused : (f ≡ 0 → ⊥) → readFrom text pos ns x ≡ refused f (byte place)
     unfolding NameRead
-    name-refused b = on-token text pos _ refl ns x _ (new _ ∙ ill r b c ns k n next)
+    name-refused b = on-token text pos _ refl ns x _ (new ∙ ill r b c ns k n next)
 
     pub name-on : f ≡ 0 → readFrom text pos ns x ≡ andThen (next (take (after - place) (drop place text))) (λ ms y. readFrom text after ms y)
     name-on z =
         let w = name-read z in
-        on-token text pos _ (w .token) ns x _ (new _ ∙ ap (λ (u : Placed). newName ns u noWire full next) (sym (w .token)) ∙ w .leads c ns k n .1 next)
+        on-token text pos _ refl ns x _ (new ∙ w .leads c ns k n .1 next)
+        ∙ ap (λ (u : Placed). andThen (next (take (after - place) (drop place text))) (λ ms y. readFrom text (u .after) ms y)) (w .token)

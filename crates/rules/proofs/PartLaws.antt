@@ -206,18 +206,18 @@ module _ (P : List ℕ) (c u v w : ℕ) (h : c + 3 ≤ length P) where
   two-long : c + 2 < length with-two
   two-long = simp length-set (omega arith)
 
-  put-three : Extends P c written (c + 3)
+  pub put-three : Extends P c written (c + 3)
   put-three =
       let x = extends-then (put-both P c u v (omega arith)) (put-extends with-two (c + 2) w two-long) in
       record { long = x .long; more = omega arith; kept = x .kept }
 
-  first-word : at written c ≡ u
+  pub first-word : at written c ≡ u
   first-word = put-extends with-two (c + 2) w two-long .kept c (omega arith) ∙ put-first P c u v (omega arith)
 
-  second-word : at written (c + 1) ≡ v
+  pub second-word : at written (c + 1) ≡ v
   second-word = put-extends with-two (c + 2) w two-long .kept (c + 1) (omega arith) ∙ put-second P c u v (omega arith)
 
-  third-word : at written (c + 2) ≡ w
+  pub third-word : at written (c + 2) ≡ w
   third-word = put-at with-two (c + 2) w two-long
 
 pub letter-made : (P : List ℕ) (c : ℕ) (q : Condition) (link : ℕ) → c + 3 ≤ length P → length P ≤ 65535 → 1 ≤ c → q .link < c → link < c

@@ -1,15 +1,15 @@
 -- A text's watch: its marks, and its tables by the opened program. Assumes nothing.
 use mathlib.Core.Path.{_≡_, refl, sym, _∙_, ap, ap₂}
 use mathlib.Core.List.{List, [], _∷_, _++_, map, map-append}
-use Prim.Native.Nat.{ℕ, zero, suc, _+_}
+use Prim.Native.Nat.{ℕ, zero, suc, _+_, _<_}
 use native.Mathlib.Omega.{arith}
-use lib.ListN.{replicate, length-replicate, set}
-use lib.Seq.{sets}
+use lib.ListN.{length, getD, take, replicate, length-replicate, set}
+use lib.Seq.{sets, length-take-le, take-suc}
 use Rattle.meaning.specs.Masks.{look, want}
 use Rattle.meaning.specs.Lists.{each}
 use Rattle.meaning.specs.Expression.{Letter, Exp, letter, seq, alt, star, pipe, letters, size, rows, renumbered}
 use Rattle.meaning.proofs.Numbering.{renumbered-size, renumbered-rows}
-use Rattle.rules.specs.Laying.{RowCode, rowCode, rowCodes, slotsOf, slotWord, slotNumber}
+use Rattle.rules.specs.Laying.{rowCode, rowCodes, slotsOf, slotWord, slotNumber}
 use Rattle.rules.specs.Monitors.{codesAll, startsBy, Lists, withMonitors}
 use Rattle.rules.proofs.Overlay.{sets-behind}
 
@@ -82,7 +82,6 @@ all-starts f same n (m ∷ ms) = ap (λ s. n ∷ s) (ap (λ (a : ℕ). startsBy 
 
 -- The tables are those of the opened program, whose letters are numbered.
 pub tables-renumbered : (A : Lists) (i r l : ℕ) (ms : List Exp) → withMonitors A i r l (map (renumbered 0) ms) ≡ withMonitors A i r l ms
-unfolding slotsOf
 tables-renumbered A i r l ms =
     rw (
       all-codes r l ms,
@@ -93,3 +92,9 @@ tables-renumbered A i r l ms =
       all-starts rows (renumbered-rows 0) r ms,
       all-starts size (renumbered-size 0) l ms,
     )
+
+-- ---- values
+
+pub values-more : (L W : List ℕ) (i : ℕ) → i < length W → set (sets L 0 (take i W)) i (getD W i 0) ≡ sets L 0 (take (i + 1) W)
+values-more L W i h =
+    sets-behind L 0 i (take i W) (getD W i 0 ∷ []) (take (i + 1) W) (let l = length-take-le i W (omega arith) in omega (arith, l)) (let e : i + 1 ≡ suc i = omega arith in ap (λ (n : ℕ). take n W) e ∙ take-suc W i 0 h)

@@ -52,7 +52,7 @@ module _ (Q : Token → ℕ → Type 0) (k : ℕ) where
       by true e = a (ltb-true k 18 e)
       by false e = b (ltb-false k 18 e)
 
-  by-kind : (s : List ℕ) (v : ℕ) → (k < 18 → Q (token.sign k) k) → Q (token.name s) 18 → Q (token.number v) 19
+  pub by-kind : (s : List ℕ) (v : ℕ) → (k < 18 → Q (token.sign k) k) → Q (token.name s) 18 → Q (token.number v) 19
       → ((w : token.Word) → (n : ℕ) → 20 ≤ n → n < 24 → Q (token.word w) n) → Q token.end 24 → (25 ≤ k → Q (token.refused 2) k) → Q (tokenOf k s v) k
   unfolding tokenOf
   by-kind s v sg nm nu wd en kn =

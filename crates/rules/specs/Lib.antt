@@ -9,7 +9,9 @@ pub mod Tasks
 pub mod Written
 pub mod Expressions
 pub mod Scopes
+pub mod Defined
 pub mod Laying
 pub mod Parts
 pub mod Monitors
+pub mod Statements
 pub mod Watches

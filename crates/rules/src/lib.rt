@@ -1,21 +1,26 @@
 // Opening a rule text: 01, "The rule text", "Shape" and "The watch". `open` takes every text.
 mod declarations;
+mod definitions;
 mod expression;
 mod lay;
 mod literals;
 mod names;
 mod opening;
 mod parts;
+mod statements;
 mod tokens;
 mod words;
 mod writes;
 
+use opening::open_monitors;
+use statements::read;
 ghost use mathlib.Core.Path.{_≡_};
-ghost use lib.ListN.{replicate};
+ghost use lib.ListN.{length, take, replicate};
 ghost use lib.Seq.{sets};
-ghost use Prim.Native.Nat.{_≤_};
+ghost use Prim.Native.Nat.{_+_, _*_, _≤_};
+ghost use Rattle.meaning.specs.Opening.{openText};
 ghost use mathlib.Core.List.{[]};
-ghost use Rattle.rules.specs.Watches.{noLists, watchBy};
+ghost use Rattle.rules.specs.Watches.{noLists, watchBy, watchOf, outcomeOf};
 
 // A watch. Rows and letters as `lay` has them (specs/Laying.antt); each monitor's own row and first letter; how many
 // rows, letters, monitors, wires and stores there are; the store values; a mark for each active letter and, from 256 on,
@@ -93,4 +98,114 @@ fn start_marks(count: usize) -> [u8; 288]
         i += 1;
     }
     marks
+}
+
+// So many values from the front, and zeros.
+fn first_values(values: &[u64; 16], count: usize) -> [u64; 16]
+    requires { ⌜ (count ≤ 16) × (length (now values) ≡ 16) ⌝ }
+    ensures { λ r. ⌜ r ≡ sets (replicate 16 0) 0 (take count (now (values .entry))) ⌝ }
+{
+    let mut kept = [0u64; 16];
+    let mut i: usize = 0;
+    while i < count {
+        kept[i] = values[i];
+        i += 1;
+    }
+    kept
+}
+
+// No watch, and why.
+fn refusal(outcome: Outcome) -> Start
+    ensures { λ r. ⌜ (r .outcome ≡ outcome) × (r .watch ≡ watchBy noLists 0 0 0 0 []) ⌝ }
+{
+    let watch = no_watch();
+    Start { outcome, watch }
+}
+
+// Opens a text that is not overlong, with words that have room for it.
+fn open_in(text: &[u8], words: &mut [u64]) -> Start
+    requires { ⌜ (length (now text) ≤ 16384) × (3 * length (now text) + 2 ≤ length (now words)) × (length (now words) ≤ 65535) ⌝ }
+    ensures { λ r. ⌜ (r .outcome ≡ outcomeOf (openText (now (text .entry)))) × (r .watch ≡ watchOf (openText (now (text .entry)))) × (length (now (words .exit)) ≡ length (now (words .entry))) ⌝ }
+{
+    let mut values = [0u64; 16];
+    let mut list = [0u16; 32];
+    let r = read(text, words, &mut values, &mut list);
+    if r.fault != 0 {
+        return refusal(Outcome::AtByte(r.fault, r.at));
+    }
+    let mut kind = [0u8; 1024];
+    let mut left = [0u16; 1024];
+    let mut right = [0u16; 1024];
+    let mut up = [0u16; 1024];
+    let mut look = [0u64; 256];
+    let mut want = [0u64; 256];
+    let mut links = [0u64; 1024];
+    let mut numbers = [0u64; 1024];
+    let mut own = [0u16; 32];
+    let mut firsts = [0u16; 32];
+    let o = open_monitors(
+        words,
+        &list,
+        r.count,
+        &mut kind,
+        &mut left,
+        &mut right,
+        &mut up,
+        &mut look,
+        &mut want,
+        &mut links,
+        &mut numbers,
+        &mut own,
+        &mut firsts,
+    );
+    if o.fault != 0 {
+        return refusal(Outcome::AtLetter(o.fault, o.monitor, o.letter));
+    }
+    let kept = first_values(&values, r.stores);
+    let marks = start_marks(r.count);
+    let watch = Watch {
+        kind,
+        left,
+        right,
+        up,
+        look,
+        want,
+        links,
+        numbers,
+        own,
+        firsts,
+        rows: o.rows,
+        letters: o.letters,
+        monitors: r.count,
+        wires: r.wires,
+        stores: r.stores,
+        values: kept,
+        marks,
+        ticks: 0,
+        stopped: false,
+    };
+    Start {
+        outcome: Outcome::Open(o.rows, o.letters),
+        watch,
+    }
+}
+
+// Opens a rule text: a watch with tick count 0, the first store values and each monitor at its start, and both counts; or
+// the refusal. The words that it is read into are few where the text is short.
+pub fn open(text: &[u8]) -> Start
+    ensures { λ r. ⌜ (r .outcome ≡ outcomeOf (openText (now (text .entry)))) × (r .watch ≡ watchOf (openText (now (text .entry)))) ⌝ }
+{
+    if 16384 < text.len() {
+        return refusal(Outcome::AtByte(1, 0));
+    }
+    if text.len() <= 512 {
+        let mut words = [0u64; 1538];
+        return open_in(text, &mut words);
+    }
+    if text.len() <= 4096 {
+        let mut words = [0u64; 12290];
+        return open_in(text, &mut words);
+    }
+    let mut words = [0u64; 49154];
+    open_in(text, &mut words)
 }

@@ -1,0 +1,169 @@
+-- Statements one after the other, from the beginning of a text on. Assumes nothing.
+use mathlib.Core.Path.{_≡_, refl, sym, _∙_, ap}
+use mathlib.Core.List.{List, []}
+use Prim.Native.Nat.{ℕ, _+_, _-_, _*_, _<_, _≤_}
+use native.Mathlib.Omega.{arith}
+use lib.ListN.{length}
+use Rattle.lexer.specs.Tokens as token
+use Rattle.lexer.specs.Tokens.{Token, Placed, tokenAt}
+use Rattle.meaning.specs.Answers.{refused, byte}
+use Rattle.meaning.specs.Reading.{Names, noNames, Expect, statement, inputName, storeName, defineName, monitorName, go, notHere, begin, ofWord, step}
+use Rattle.rules.specs.declared.declarations.Scope.{Scope}
+use Rattle.rules.specs.declared.declarations.Declared.{Declared}
+use Rattle.rules.specs.declared.tokens.Seen.{Seen}
+use Rattle.rules.specs.Seen.{wordKind, seen, Sees, tokenOf}
+use Rattle.rules.specs.Cells.{Cells, Declared as SomeNames}
+use Rattle.rules.specs.Reads.{readFrom, Unless, fine, faulted, placed}
+use Rattle.rules.specs.Scopes.{Ready, Added, Refuses, Declares}
+use Rattle.rules.specs.Statements.{Listing, NotListed, Monitored, Declaring, Stated, TextRead}
+use Rattle.rules.proofs.Stepping.{well, ill, faults, past, on-step, not-here, by-kind, name-is}
+use Rattle.rules.proofs.TaskLaws.{room-on, room-after}
+use Rattle.rules.proofs.Declaring.{answered}
+
+-- ---- one statement
+
+-- what is expected behind a word
+abbrev pub behindWord : token.Word → Expect
+behindWord token.input = inputName
+behindWord token.internal = storeName
+behindWord token.define = defineName
+behindWord token.monitor = monitorName []
+
+-- a token that begins no statement
+none-kind : (ns : Names) (u : Placed) (kind : ℕ) (s : List ℕ) (v : ℕ) → (kind ≡ 18 → ⊥) → (20 ≤ kind → kind < 24 → ⊥) → begin ns u (tokenOf kind s v) ≡ notHere u
+none-kind ns u kind s v a b =
+    by-kind (λ (t : Token) (m : ℕ). (m ≡ 18 → ⊥) → (20 ≤ m → m < 24 → ⊥) → begin ns u t ≡ notHere u) kind s v
+    (λ l x y. refl) (λ x y. absurd (x refl)) (λ x y. refl) (λ w m l g x y. absurd (y l g)) (λ x y. refl) (λ l x y. refl) a b
+
+module _ (text : List ℕ) (pos : ℕ) (t : Seen) (sees : Sees text pos t) where
+  word-is : (w : token.Word) → t .kind ≡ wordKind w → seen text t ≡ placed (token.word w) (t .place) (t .after)
+  unfolding seen tokenOf
+  word-is token.input q = rw q
+  word-is token.internal q = rw q
+  word-is token.define q = rw q
+  word-is token.monitor q = rw q
+
+  word-on : (w : token.Word) → t .kind ≡ wordKind w → (ns : Names) → readFrom text pos ns statement ≡ readFrom text (t .after) ns (behindWord w)
+  unfolding step
+  word-on w q ns = on-step text pos t sees ns statement (go ns (behindWord w)) (ap (step ns statement) (word-is w q) ∙ of w)
+    where
+      of : (w : token.Word) → ofWord ns w ≡ go ns (behindWord w)
+      of token.input = refl
+      of token.internal = refl
+      of token.define = refl
+      of token.monitor = refl
+
+  word-past : (w : token.Word) → t .kind ≡ wordKind w → (pos < t .after) × (t .after ≤ length text)
+  word-past w q = past text pos t sees (few w q)
+    where
+      few : (w : token.Word) → t .kind ≡ wordKind w → t .kind < 24
+      few token.input q = omega arith
+      few token.internal q = omega arith
+      few token.define q = omega arith
+      few token.monitor q = omega arith
+
+  pub name-at : t .kind ≡ 18 → (s : List ℕ) × (place : ℕ) × (after : ℕ) × (tokenAt text pos ≡ placed (token.name s) place after)
+  name-at q = (_, _, _, sym (sees .token) ∙ name-is text pos t sees q)
+
+  module _ (P S : List ℕ) (c : ℕ) (scope : Scope) where
+    pub word-ready : (w : token.Word) → t .kind ≡ wordKind w → Ready text P S pos c scope → Ready text P S (t .after) c scope
+    word-ready w q r = let p = word-past w q in record { room = room-on (r .room) (omega arith) (p .1); short = r .short; values = r .values; names = r .names }
+
+    pub word-declares : (w : token.Word) → t .kind ≡ wordKind w → (r : Declared) (Q T : List ℕ) → Declares text (behindWord w) P S (t .after) c scope r Q T
+        → Declares text statement P S pos c scope r Q T
+    word-declares w q r Q T d = record { words = d .words; values = d .values; outcome = by (d .outcome) }
+      where
+        by : Unless (r .fault) (Added text (behindWord w) P S (t .after) c scope r Q T) (Refuses text (behindWord w) P S (t .after) c scope (r .fault) (r .at))
+            → Unless (r .fault) (Added text statement P S pos c scope r Q T) (Refuses text statement P S pos c scope (r .fault) (r .at))
+        by (fine z a) =
+            let p = word-past w q in
+            let s = a .spent in
+            fine z (record {
+              extends = a .extends;
+              spent = record { since = omega (arith, s .since); inside = s .inside; few = omega (arith, s .few) };
+              further = omega (arith, a .further);
+              reads = λ ns k. let (ms, m, on) = a .reads ns k in (ms, m, word-on w q ns ∙ on);
+            })
+        by (faulted n a) = faulted n (λ ns k. word-on w q ns ∙ a ns k)
+
+    pub none-declares : (t .kind ≡ 18 → ⊥) → (20 ≤ t .kind → t .kind < 24 → ⊥) → Declares text statement P S pos c scope (answered (t .fault) (t .place) c scope) P S
+    unfolding step seen
+    none-declares a b =
+        record {
+          words = refl;
+          values = refl;
+          outcome = faulted (faults text pos t sees) (λ ns k.
+              on-step text pos t sees ns statement _ (none-kind ns (seen text t) (t .kind) _ (t .value) a b ∙ not-here text pos t sees));
+        }
+
+-- ---- one statement behind another
+
+abbrev pub noScope : Scope
+noScope = record { last = 0; count = 0; wires = 0; stores = 0 }
+
+pub declared-none : (text P S : List ℕ) → 3 * length text + 2 ≤ length P → length P ≤ 65535 → Declaring text P S (answered 0 0 1 noScope) statement
+unfolding Cells
+declared-none text P S room small =
+    record {
+      room = record { some = omega arith; fits = omega arith; inside = omega arith; small = small };
+      names = noNames;
+      known = record { cells = refl; count = refl; few = omega arith; wires = refl; word = omega arith; stores = refl; room = omega arith; values = refl; low = omega arith };
+      reads = refl;
+    }
+
+module _ (text P S : List ℕ) (d : Declared) (so : Declaring text P S d statement) where
+  pub declared-ready : length text ≤ 16384 → length S ≡ 16 → Ready text P S (d .at) (d .free) (d .scope)
+  declared-ready l e = record { room = so .room; short = l; values = e; names = (so .names, so .known) }
+
+  pub declared-monitor : (t : Seen) → Sees text (d .at) t → t .kind ≡ 23 → Declaring text P S (answered 0 (t .after) (d .free) (d .scope)) (monitorName [])
+  declared-monitor t sees q =
+      let p = word-past text (d .at) t sees token.monitor q in
+      record { room = room-on (so .room) (omega arith) (p .1); names = so .names; known = so .known; reads = so .reads ∙ word-on text (d .at) t sees token.monitor q (so .names) }
+
+  module _ (r : Declared) (Q T : List ℕ) (one : Declares text statement P S (d .at) (d .free) (d .scope) r Q T) where
+    pub declared-refused : (r .fault ≡ 0 → ⊥) → readFrom text 0 noNames statement ≡ refused (r .fault) (byte (r .at))
+    declared-refused n = so .reads ∙ ill (one .outcome) n (so .names) (so .known)
+
+    module _ (z : r .fault ≡ 0) where
+      pub declared-next : Declaring text Q T r statement
+      declared-next =
+          let a = well (one .outcome) z in
+          let (ms, m, on) = a .reads (so .names) (so .known) in
+          record { room = room-after (so .room) (a .extends) (a .spent); names = ms; known = m; reads = so .reads ∙ on }
+
+      pub declared-less : length text - r .at < length text - d .at
+      declared-less = let a = well (one .outcome) z in omega (arith, a .further, a .spent .inside)
+
+-- ---- a text
+
+module _ (text P S : List ℕ) (d : Declared) (Q T : List ℕ) (s : Stated text P S d Q T) where
+  pub text-refused : (d .fault ≡ 0 → ⊥) → (free wires stores count : ℕ) (M : List ℕ) → TextRead text (d .fault) (d .at) free wires stores count Q T M
+  unfolding TextRead readFrom
+  text-refused n free wires stores count M = faulted n (ill (s .outcome) n)
+
+  module _ (z : d .fault ≡ 0) where
+    pub text-names : SomeNames text Q (d .scope .last)
+    text-names = let a = well (s .outcome) z in let r = a .room in (d .free, a .names .declared, omega (arith, r .fits, r .inside), a .known .cells)
+
+    pub text-read : (f at : ℕ) (M : List ℕ) (count : ℕ) → Monitored text Q (d .scope .last) (d .at) f at M count
+        → TextRead text f at (d .free) (d .scope .wires) (d .scope .stores) count Q T M
+    unfolding TextRead readFrom Monitored Listing NotListed
+    text-read f at M count (fine y on) =
+        let a = well (s .outcome) z in
+        let r = a .room in
+        let k = a .known in
+        let (ms, w, e) = on (d .free) (a .names) (omega (arith, r .fits, r .inside)) (k .cells) in
+        fine y (record {
+          program = _;
+          reads = a .reads ∙ e;
+          monitors = w;
+          width = k .wires;
+          number = k .stores;
+          values = k .values;
+          word = k .word;
+          few = k .room;
+        })
+    text-read f at M count (faulted n on) =
+        let a = well (s .outcome) z in
+        let r = a .room in
+        faulted n (a .reads ∙ on (d .free) (a .names) (omega (arith, r .fits, r .inside)) (a .known .cells))

@@ -1,0 +1,133 @@
+-- A text is opened as the meaning says: from reading and from its monitors. Assumes nothing.
+use mathlib.Core.Path.{_≡_, sym, _∙_, ap, ap₂}
+use mathlib.Core.Bool.{Bool, false, cond}
+use mathlib.Core.List.{List, [], map}
+use Prim.Native.Nat.{ℕ, _<_, _≤_}
+use borrow.Author.Tests.{le-ltb, lt-ltb}
+use lib.ListN.{length, length-map, take, replicate, length-replicate}
+use lib.Seq.{sets}
+use Rattle.lexer.specs.Tokens.{tokens}
+use Rattle.meaning.specs.Answers as meaning
+use Rattle.meaning.specs.Expression.{Exp, rows, renumbered}
+use Rattle.meaning.specs.Reading.{noNames, statement, readOn, read}
+use Rattle.meaning.specs.Opening.{Opened, asOpened, openProgram, andOpen, openText}
+use Rattle.rules.specs.declared.Watch.{Watch}
+use Rattle.rules.specs.declared.Outcome.{Outcome}
+use Rattle.rules.specs.declared.Outcome.the-variants.{Open, AtByte, AtLetter}
+use Rattle.rules.specs.declared.opening.Opening.{Opening}
+use Rattle.rules.specs.Reads.{Unless}
+use Rattle.rules.specs.Monitors.{MonitorsAre, SomeMonitors, Arrays, Lists, withMonitors, AllStored, OpenedBy, byRules}
+use Rattle.rules.specs.Statements.{Says, TextRead}
+use Rattle.rules.specs.Watches.{noLists, watchBy, watchOf, outcomeOf}
+use Rattle.rules.proofs.Stepping.{well, ill}
+use Rattle.rules.proofs.AllMonitors.{program-opened}
+use Rattle.rules.proofs.Starting.{tables-renumbered}
+
+-- the answer and the watch are those of what opening the text comes to
+pub record Right (text : List ℕ) (o : Outcome) (w : Watch) : Type 0 where
+  pub outcome : o ≡ outcomeOf (openText text)
+  pub watch : w ≡ watchOf (openText text)
+
+by-answer : (text : List ℕ) (a : meaning.Answer Opened) → openText text ≡ a → (o : Outcome) (w : Watch) → o ≡ outcomeOf a → w ≡ watchOf a → Right text o w
+by-answer text a e o w p q = record { outcome = p ∙ ap outcomeOf (sym e); watch = q ∙ ap watchOf (sym e) }
+
+-- an overlong text
+pub right-long : (text : List ℕ) → 16384 < length text → (o : Outcome) (w : Watch) → o ≡ AtByte 1 0 → w ≡ watchBy noLists 0 0 0 0 [] → Right text o w
+unfolding openText read outcomeOf watchOf
+right-long text l o w p q = by-answer text (meaning.refused 1 (meaning.byte 0)) (ap (λ (b : Bool). andOpen (cond b (meaning.refused 1 (meaning.byte 0)) (readOn noNames statement (tokens text)))) (lt-ltb 16384 (length text) l)) o w p q
+
+-- a watch by its parts
+raw : Lists → (rows letters monitors wires stores : ℕ) → (kept marks : List ℕ) → Watch
+raw A r l n w s k m =
+    record {
+      kind = A .rows-of .kind;
+      left = A .rows-of .left;
+      right = A .rows-of .right;
+      up = A .rows-of .up;
+      look = A .letters-of .look;
+      want = A .letters-of .want;
+      links = A .letters-of .links;
+      numbers = A .letters-of .numbers;
+      own = A .own;
+      firsts = A .firsts;
+      rows = r;
+      letters = l;
+      monitors = n;
+      wires = w;
+      stores = s;
+      values = k;
+      marks = m;
+      ticks = 0;
+      stopped = false;
+    }
+
+same-watch : (A B : Lists) (r r′ l l′ n n′ w w′ s : ℕ) (k m vs : List ℕ) → A ≡ B → r ≡ r′ → l ≡ l′ → n ≡ n′ → w ≡ w′ → s ≡ length vs
+    → k ≡ sets (replicate 16 0) 0 vs → m ≡ sets (replicate 288 0) 256 (replicate n′ 1) → raw A r l n w s k m ≡ watchBy B r′ l′ n′ w′ vs
+unfolding raw
+same-watch A B r r′ l l′ n n′ w w′ s k m vs a b c d e f g h = rw (a, b, c, d, e, f, g, h)
+
+module _ (text : List ℕ) (short : length text ≤ 16384) (f pos free wires stores count : ℕ) (Q S M : List ℕ) (t : TextRead text f pos free wires stores count Q S M) where
+  opens : openText text ≡ andOpen (readOn noNames statement (tokens text))
+  unfolding openText read
+  opens = ap (λ (b : Bool). andOpen (cond b (meaning.refused 1 (meaning.byte 0)) (readOn noNames statement (tokens text)))) (le-ltb 16384 (length text) short)
+
+  pub right-byte : (f ≡ 0 → ⊥) → (o : Outcome) (w : Watch) → o ≡ AtByte f pos → w ≡ watchBy noLists 0 0 0 0 [] → Right text o w
+  unfolding TextRead outcomeOf watchOf
+  right-byte n o w p q = by-answer text (meaning.refused f (meaning.byte pos)) (opens ∙ ap andOpen (ill t n)) o w p q
+
+  module _ (z : f ≡ 0) where
+    pub says : Says text free wires stores count Q S M
+    unfolding TextRead
+    says = well t z
+
+    pub some-monitors : SomeMonitors Q M count
+    some-monitors = (free, says .program .monitors, says .monitors)
+
+    pub zero-arrays : Arrays (noLists .rows-of) (noLists .letters-of)
+    zero-arrays =
+        let a = length-replicate {A = ℕ} 1024 0 in
+        let b = length-replicate {A = ℕ} 256 0 in
+        record { kinds = a; lefts = a; rights = a; ups = a; looks = b; wants = b; links = a; numbers = a }
+
+    module _ (A : Lists) (r : Opening) (by : (c : ℕ) (ms : List Exp) → MonitorsAre Q c M count ms → OpenedBy (byRules ms) ms noLists A r) where
+      opened : Unless (r .fault) ((openProgram (says .program) ≡ meaning.value (asOpened (says .program))) × AllStored (says .program .monitors) noLists A (r .rows) (r .letters))
+          (openProgram (says .program) ≡ meaning.refused (r .fault) (meaning.letterOf (r .monitor) (r .letter)))
+      opened = program-opened (says .program) noLists A r (by free (says .program .monitors) (says .monitors))
+
+      pub right-letter : (r .fault ≡ 0 → ⊥) → (o : Outcome) (w : Watch) → o ≡ AtLetter (r .fault) (r .monitor) (r .letter) → w ≡ watchBy noLists 0 0 0 0 [] → Right text o w
+      unfolding outcomeOf watchOf
+      right-letter n o w p q =
+          by-answer text (meaning.refused (r .fault) (meaning.letterOf (r .monitor) (r .letter))) (opens ∙ ap andOpen (says .reads) ∙ ill opened n) o w p q
+
+      pub right-open : r .fault ≡ 0 → (kept marks : List ℕ) → kept ≡ sets (replicate 16 0) 0 (take stores S) → marks ≡ sets (replicate 288 0) 256 (replicate count 1)
+          → Right text (Open (r .rows) (r .letters)) (record {
+            kind = A .rows-of .kind;
+            left = A .rows-of .left;
+            right = A .rows-of .right;
+            up = A .rows-of .up;
+            look = A .letters-of .look;
+            want = A .letters-of .want;
+            links = A .letters-of .links;
+            numbers = A .letters-of .numbers;
+            own = A .own;
+            firsts = A .firsts;
+            rows = r .rows;
+            letters = r .letters;
+            monitors = count;
+            wires = wires;
+            stores = stores;
+            values = kept;
+            marks = marks;
+            ticks = 0;
+            stopped = false;
+          })
+      unfolding outcomeOf watchOf asOpened raw
+      right-open y kept marks k m =
+          let (e, s) = well opened y in
+          let p = says .program in
+          let n : count ≡ length (map (renumbered 0) (p .monitors)) = says .monitors .number ∙ sym (length-map (p .monitors) (renumbered 0)) in
+          by-answer text (meaning.value (asOpened p)) (opens ∙ ap andOpen (says .reads) ∙ e) _ _
+          (ap₂ Open (s .row-count) (s .letter-count))
+          (same-watch A (withMonitors noLists 0 0 0 (map (renumbered 0) (p .monitors))) (r .rows) _ (r .letters) _ count _ wires _ stores kept marks (p .initial)
+          (s .tables ∙ sym (tables-renumbered noLists 0 0 0 (p .monitors))) (s .row-count) (s .letter-count) n (says .width) (says .number)
+          (k ∙ ap (sets (replicate 16 0) 0) (says .values)) (m ∙ ap (λ (q : ℕ). sets (replicate 288 0) 256 (replicate q 1)) n))

@@ -1,0 +1,71 @@
+-- `rules::definitions::production` meets its contract.
+-- Assumes nothing.
+use native.Mathlib.Omega.{arith}
+use borrow.Author.Needs.{needs}
+use Rattle.rules.proofs.Declaring.{ready-names}
+use Rattle.rules.proofs.Defining.{body-given, cell-room, no-begin, no-body, no-end, definition-read}
+use Rattle.meaning.specs.Reading.{aProduction}
+use Rattle.rules.proofs.Bodies.{expression-read, production-begins, production-declares}
+use Rattle.rules.proofs.definitions.production.Statement.{statement}
+use Rattle.rules.proofs.definitions.production.Tie as tie
+
+begun-requires : tie.Need-begun-requires
+begun-requires c κs = (ready-names (c .before .before .before .pre .0 .1), omega arith)
+
+same-length : tie.Need-same-length
+same-length c = search needs
+
+returns : tie.Need-returns
+returns c = λ S. no-begin _ _ _ _ _ _ _ _ _ (c .before .before .begun .ensures) _ S _ _ (production-begins _ _ (c .before .before .before .before .before .before .pre .1)) (c .if1 .taken)
+
+expression-requires : tie.Need-expression-requires
+expression-requires c κs = (body-given _ _ _ _ _ _ _ _ _ (c .before .before .before .begun .ensures) (c .before .if1 .left) _ _ (c .before .before .before .before .before .before .before .pre .0 .1), omega arith)
+
+same-length-2 : tie.Need-same-length-2
+same-length-2 c = search needs
+
+returns-2 : tie.Need-returns-2
+returns-2 c = λ S. no-body _ _ _ _ _ _ _ _ _ (c .before .before .before .before .before .before .before .before .begun .ensures) _ S _ _ (production-begins _ _ (c .before .before .before .before .before .before .before .before .before .before .before .before .pre .1)) (c .before .before .before .before .before .before .if1 .left) _ _ _ _ _ _ _ (expression-read _ _ _ _ _ _ _ (c .before .before .before .before .expression .ensures)) (c .if2 .taken)
+
+sign-requires : tie.Need-sign-requires
+sign-requires c κs = search needs
+
+same-length-3 : tie.Need-same-length-3
+same-length-3 c = search needs
+
+returns-3 : tie.Need-returns-3
+returns-3 c = λ S. no-end _ _ _ _ _ _ _ _ _ (c .before .before .before .before .before .before .before .before .before .before .before .begun .ensures) _ S _ _ (production-begins _ _ (c .before .before .before .before .before .before .before .before .before .before .before .before .before .before .before .pre .1)) (c .before .before .before .before .before .before .before .before .before .if1 .left) _ _ _ _ _ _ _ (expression-read _ _ _ _ _ _ _ (c .before .before .before .before .before .before .before .expression .ensures)) (c .before .before .before .if2 .left) _ _ (c .before .before .sign .ensures) (c .if3 .taken)
+
+write-production-requires : tie.Need-write-production-requires
+write-production-requires c κs = let (a, b, d, e, f, g, h) = cell-room _ _ _ _ _ _ _ _ _ (c .before .before .before .before .before .before .before .before .before .before .before .before .before .begun .ensures) (c .before .before .before .before .before .before .before .before .before .before .before .if1 .left) _ _ (c .before .before .before .before .before .before .before .before .before .before .before .before .before .before .before .before .before .pre .0 .1) _ _ _ _ _ _ _ _ (expression-read _ _ _ _ _ _ _ (c .before .before .before .before .before .before .before .before .before .expression .ensures)) (c .before .before .before .before .before .if2 .left) _ _ (c .before .before .before .before .sign .ensures) (c .before .before .if3 .left) in (omega arith, b, d, e, f, g)
+
+add-t18 : tie.Need-add-t18
+add-t18 c = let (a, b, d, e, f, g, h) = cell-room _ _ _ _ _ _ _ _ _ (c .before .before .before .before .before .before .before .before .before .before .before .before .before .before .before .before .before .begun .ensures) (c .before .before .before .before .before .before .before .before .before .before .before .before .before .before .before .if1 .left) _ _ (c .before .before .before .before .before .before .before .before .before .before .before .before .before .before .before .before .before .before .before .before .before .pre .0 .1) _ _ _ _ _ _ _ _ (expression-read _ _ _ _ _ _ _ (c .before .before .before .before .before .before .before .before .before .before .before .before .before .expression .ensures)) (c .before .before .before .before .before .before .before .before .before .if2 .left) _ _ (c .before .before .before .before .before .before .before .before .sign .ensures) (c .before .before .before .before .before .before .if3 .left) in omega arith
+
+add-t19 : tie.Need-add-t19
+add-t19 c = let (a, b, d, e, f, g, h) = cell-room _ _ _ _ _ _ _ _ _ (c .before .before .before .before .before .before .before .before .before .before .before .before .before .before .before .before .before .before .begun .ensures) (c .before .before .before .before .before .before .before .before .before .before .before .before .before .before .before .before .if1 .left) _ _ (c .before .before .before .before .before .before .before .before .before .before .before .before .before .before .before .before .before .before .before .before .before .before .pre .0 .1) _ _ _ _ _ _ _ _ (expression-read _ _ _ _ _ _ _ (c .before .before .before .before .before .before .before .before .before .before .before .before .before .before .expression .ensures)) (c .before .before .before .before .before .before .before .before .before .before .if2 .left) _ _ (c .before .before .before .before .before .before .before .before .before .sign .ensures) (c .before .before .before .before .before .before .before .if3 .left) in omega arith
+
+same-length-4 : tie.Need-same-length-4
+same-length-4 c = search needs
+
+returns-4 : tie.Need-returns-4
+returns-4 c = λ S. definition-read _ _ _ _ _ _ _ _ _ (c .before .before .before .before .before .before .before .before .before .before .before .before .before .before .before .before .before .before .begun .ensures) _ S _ _ (production-begins _ _ (c .before .before .before .before .before .before .before .before .before .before .before .before .before .before .before .before .before .before .before .before .before .before .pre .1)) (c .before .before .before .before .before .before .before .before .before .before .before .before .before .before .before .before .if1 .left) _ _ _ _ _ _ _ (expression-read _ _ _ _ _ _ _ (c .before .before .before .before .before .before .before .before .before .before .before .before .before .before .expression .ensures)) (c .before .before .before .before .before .before .before .before .before .before .if2 .left) _ _ (c .before .before .before .before .before .before .before .before .before .sign .ensures) (c .before .before .before .before .before .before .before .if3 .left) (c .before .before .before .before .before .before .before .before .before .before .before .before .before .before .before .before .before .before .before .before .before .before .pre .0 .1 .room .some) 3 (omega arith) (omega arith) aProduction production-declares _ (c .before .before .before .before .write-production .ensures)
+
+pub production-spec : {M : Type 1} → statement M
+production-spec =
+    tie.close
+    (tie.spec
+    begun-requires
+    same-length
+    returns
+    expression-requires
+    same-length-2
+    returns-2
+    sign-requires
+    same-length-3
+    returns-3
+    write-production-requires
+    add-t18
+    add-t19
+    same-length-4
+    returns-4)
