@@ -1,4 +1,4 @@
--- What the words that a text is read into stand for.
+-- Watches says what `open` answers with, by Laying and Monitors; this is what a reader must believe. The others say what the inner functions have and promise.
 pub mod Words
 pub mod Seen
 pub mod Cells
