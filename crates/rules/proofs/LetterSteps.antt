@@ -30,7 +30,7 @@ use Rattle.rules.specs.Parts.{PartIs, LetterMade}
 use Rattle.rules.specs.Tasks.{Fails, AllWritten}
 use Rattle.rules.specs.Expressions.{Named, bySimple, Expresses, anyOpen, LetterBegun, LetterGiven, behindLiterals, LetterEnded, EndsLetter}
 use Rattle.rules.proofs.Stepping.{well, ill, yes, no, faults, no-name, past, past-place, inside-text, on-step, is-on, is-off}
-use Rattle.rules.proofs.Picking.{known-name, cell-kind}
+use Rattle.rules.proofs.Picking.{present, known-name, cell-kind}
 use Rattle.rules.proofs.Put.{extends-refl, extends-then}
 use Rattle.rules.proofs.Kept.{cells-kept, tests-kept}
 use Rattle.rules.proofs.TaskLaws.{room-on}
@@ -307,11 +307,7 @@ module _ (text P : List ℕ) (pos c h : ℕ) (t : Seen) (sees : Sees text pos t)
       Meant ns = (m : Meaning) × (lookup (bytesOf text t) (ns .declared) ≡ some m) × Means P c cell m
 
       meant : (cell ≡ 0 → ⊥) → (ns : Names) → Cells text P c h (ns .declared) → Meant ns
-      meant n ns k = by (lookup (bytesOf text t) (ns .declared)) refl (f c (ns .declared) k)
-        where
-          by : (o : Option Meaning) → lookup (bytesOf text t) (ns .declared) ≡ o → Found P c cell o → Meant ns
-          by none l e = absurd (n e)
-          by (some m) l (p, u, y) = (m, l, y)
+      meant n ns k = present P c cell _ (f c (ns .declared) k) n
 
       pub found-low : cell < length P
       found-low = let r = g .room in let (ns, k) = g .names in by (lookup (bytesOf text t) (ns .declared)) (f c (ns .declared) k)

@@ -10,6 +10,7 @@ use lib.Dec.{leb, ltb, eqb}
 use lib.Pow.{pow-pos}
 use lib.ListN.{length}
 use Rattle.lexer.specs.Bytes.{lookup}
+use Rattle.lexer.specs.Tokens.{Placed}
 use Rattle.meaning.specs.Expression.{Literal, wire, wire-store, store, Exp}
 use Rattle.meaning.specs.Shape.{agree}
 use Rattle.meaning.specs.Answers.{refused, byte, crowded}
@@ -19,7 +20,7 @@ use Rattle.rules.specs.declared.literals.Literals.{Literals}
 use Rattle.rules.specs.declared.tokens.Seen.{Seen}
 use Rattle.rules.specs.Seen.{seen, Sees}
 use Rattle.rules.specs.Words.{part0, part1, part2}
-use Rattle.rules.specs.Cells.{at, link, Links, testsOn, flag, Means, InputAt, StoreAt, DefineAt, Cells, Declared, Found, Finds}
+use Rattle.rules.specs.Cells.{at, link, Links, testsOn, flag, Means, InputAt, StoreAt, DefineAt, Cells, Declared, Finds}
 use Rattle.rules.specs.Picks.{kindNumber, Only, bytesOf, Picks}
 use Rattle.rules.specs.Reads.{readFrom, Unless, fine, faulted, Past, Behind, NumberRead}
 use Rattle.rules.specs.Conditions.{Spent, ConditionIs, mostOf, From, Given, Added, Refuses, Adds, Joined, Linked, LinkedBoth, TestsAre, behind, byStore, byDefine, byTest, byName}
@@ -28,7 +29,7 @@ use Rattle.rules.proofs.OnNumber.{Numeric, number-past, number-most, nu
 use Rattle.rules.proofs.Put.{extends-refl, extends-then}
 use Rattle.rules.proofs.Kept.{cells-kept}
 use Rattle.rules.proofs.Tested.{count-append, wire-added, retested, store-test, wire-test, test-added, define-added}
-use Rattle.rules.proofs.Picking.{known-name, cell-kind}
+use Rattle.rules.proofs.Picking.{missing, present, known-name, cell-kind}
 
 abbrev pub answered : (f pos free : ℕ) → Condition → Literals
 answered f pos free q = record { fault = f; at = pos; free = free; condition = q }
@@ -161,6 +162,20 @@ module _ (text P : List ℕ) (at c h : ℕ) (q : Condition) (s width f a : ℕ) 
 -- ---- the name of a store behind `wire ==`
 
 -- the meaning of a cell by its kind
+pub input-of : (P : List ℕ) (c h : ℕ) (m : Meaning) → Means P c h m → kindNumber m ≡ 0 → (lo : ℕ) × (w : ℕ) × (m ≡ anInput lo w) × InputAt P c h lo w
+unfolding Means
+input-of P c h (anInput lo w) k e = (lo, w, refl, k)
+input-of P c h (aStore n w) k e = absurd (omega arith)
+input-of P c h (aDefine ls) k e = absurd (omega arith)
+input-of P c h (aProduction x) k e = absurd (omega arith)
+
+-- names of other kinds than stores, and than inputs
+pub only-stores : (t : Placed) (s : ℕ → ℕ → Step) → Only 1 t (noPair t) s (noLiterals t) (noExp t)
+only-stores t s = record { inputs = λ n. refl; stores = λ n. absurd (n refl); defines = λ n. refl; productions = λ n. refl }
+
+pub only-inputs : (t : Placed) (i : ℕ → ℕ → Step) → Only 0 t i (noPair t) (noLiterals t) (noExp t)
+only-inputs t i = record { inputs = λ n. absurd (n refl); stores = λ n. refl; defines = λ n. refl; productions = λ n. refl }
+
 pub store-of : (P : List ℕ) (c h : ℕ) (m : Meaning) → Means P c h m → kindNumber m ≡ 1 → (n : ℕ) × (w : ℕ) × (m ≡ aStore n w) × StoreAt P c h n w
 unfolding Means
 store-of P c h (anInput lo w) k e = absurd (omega arith)
@@ -168,39 +183,45 @@ store-of P c h (aStore n w) k e = (n, w, refl, k)
 store-of P c h (aDefine ls) k e = absurd (omega arith)
 store-of P c h (aProduction x) k e = absurd (omega arith)
 
+-- what was picked: its cell, and what it leads to
+module _ (text P : List ℕ) (c h pos : ℕ) (t : Seen) (sees : Sees text pos t) where
+  pub picked-store : (f cell : ℕ) → Picks text P h t 1 f cell → f ≡ 0 → (ns : Names) → Cells text P c h (ns .declared)
+      → (n : ℕ) × (w : ℕ) × StoreAt P c cell n w × (t .kind ≡ 18) × ((i s : ℕ → ℕ → Step) (d : List Literal → Step) (p : Exp → Step) → known ns (seen text t) i s d p ≡ s n w)
+  unfolding Picks byKind
+  picked-store f cell pick z ns k =
+      let p = well (pick c ns k) z in
+      let (n, w, e, st) = store-of P c cell (p .meaning) (p .means) (p .of) in
+      (n, w, st, p .name, λ i s d o. known-name text pos t sees (p .name) ns (some (aStore n w)) (p .found ∙ ap some e) i s d o)
+
+  pub picked-input : (f cell : ℕ) → Picks text P h t 0 f cell → f ≡ 0 → (ns : Names) → Cells text P c h (ns .declared)
+      → (lo : ℕ) × (w : ℕ) × InputAt P c cell lo w × (t .kind ≡ 18) × ((i s : ℕ → ℕ → Step) (d : List Literal → Step) (p : Exp → Step) → known ns (seen text t) i s d p ≡ i lo w)
+  unfolding Picks byKind
+  picked-input f cell pick z ns k =
+      let p = well (pick c ns k) z in
+      let (lo, w, e, st) = input-of P c cell (p .meaning) (p .means) (p .of) in
+      (lo, w, st, p .name, λ i s d o. known-name text pos t sees (p .name) ns (some (anInput lo w)) (p .found ∙ ap some e) i s d o)
+
 module _ (text P : List ℕ) (c h pos : ℕ) (t : Seen) (sees : Sees text pos t) (q : Condition) (most lo width : ℕ) (f cell : ℕ) (pick : Picks text P h t 1 f cell)
     (g : Given text P (t .place) c h q) where
-  only-stores : (s : ℕ → ℕ → Step) → Only 1 (seen text t) (noPair (seen text t)) s (noLiterals (seen text t)) (noExp (seen text t))
-  only-stores s = record { inputs = λ n. refl; stores = λ n. absurd (n refl); defines = λ n. refl; productions = λ n. refl }
-
   pub no-store : (f ≡ 0 → ⊥) → Adds text (byStore text t lo width) P (t .place) c h q most (answered f (t .place) c q) P
   unfolding Picks
   no-store n =
       refuse text (byStore text t lo width) P (t .place) c h q most _ n (λ ns k ls d x m.
-      ap (behind text t) (ill (pick c ns k) n _ _ _ _ (only-stores _)))
+      ap (behind text t) (ill (pick c ns k) n _ _ _ _ (only-stores (seen text t) _)))
 
   pub store-past : f ≡ 0 → t .place < t .after
   unfolding Picks
   store-past z = let (ns, k) = g .names in let p = well (pick c ns k) z in past-place text pos t sees (p .name)
 
-  -- the store, and where its number and its width stand
-  pub the-store : f ≡ 0 → (ns : Names) → Cells text P c h (ns .declared)
-      → (n : ℕ) × (w : ℕ) × StoreAt P c cell n w × ((i s : ℕ → ℕ → Step) (d : List Literal → Step) (p : Exp → Step) → known ns (seen text t) i s d p ≡ s n w)
-  unfolding Picks byKind
-  the-store z ns k =
-      let p = well (pick c ns k) z in
-      let (n, w, e, st) = store-of P c cell (p .meaning) (p .means) (p .of) in
-      (n, w, st, λ i s d o. known-name text pos t sees (p .name) ns (some (aStore n w)) (p .found ∙ ap some e) i s d o)
-
   pub store-inside : f ≡ 0 → cell + 1 < length P
-  store-inside z = let (ns, k) = g .names in let (s, w, st, on) = the-store z ns k in let r = g .room in omega (arith, st .used, r .fits, r .inside)
+  store-inside z = let (ns, k) = g .names in let (s, w, st, nm, on) = picked-store text P c h pos t sees f cell pick z ns k in let r = g .room in omega (arith, st .used, r .fits, r .inside)
 
   module _ (z : f ≡ 0) (wide : ℕ) (is : wide ≡ part1 (at P (cell + 1))) where
     pub store-unequal : (wide ≡ width → ⊥) → Adds text (byStore text t lo width) P (t .place) c h q most (answered 6 (t .place) c q) P
     unfolding seen
     store-unequal n =
         refuse text (byStore text t lo width) P (t .place) c h q most _ (λ y. omega arith) (λ ns k ls d x m.
-        let (s, w, st, on) = the-store z ns k in
+        let (s, w, st, nm, on) = picked-store text P c h pos t sees f cell pick z ns k in
         ap (behind text t) (on _ _ _ _ ∙ wrong _ _ _ _ (ap not (ne-eqb w width (λ y. n (is ∙ st .wide ∙ y))))))
 
     module _ (e : wide ≡ width) where
@@ -212,7 +233,7 @@ module _ (text P : List ℕ) (c h pos : ℕ) (t : Seen) (sees : Sees text pos t)
       unfolding seen
       store-crowded l =
           refuse text (byStore text t lo width) P (t .place) c h q most _ (λ y. omega arith) (λ ns k ls d x m.
-          let (s, w, st, on) = the-store z ns k in
+          let (s, w, st, nm, on) = picked-store text P c h pos t sees f cell pick z ns k in
           ap (behind text t)
           (on _ _ _ _ ∙ right _ _ _ _ (same-width w s st) ∙ wrong _ _ _ _ (too-many most (q .tests) 1 1 x ls m (d .tests .count) (omega arith) l)))
 
@@ -227,7 +248,7 @@ module _ (text P : List ℕ) (c h pos : ℕ) (t : Seen) (sees : Sees text pos t)
               spent = link-spent text (t .place) c (t .after) free (store-past z) (inside-text text pos t sees .1) (j .few);
               few = λ o. omega (arith, j .count);
               reads = λ ns k ls d.
-                  let (s, w, st, on) = the-store z ns k in (
+                  let (s, w, st, nm, on) = picked-store text P c h pos t sees f cell pick z ns k in (
                     ls ++ (wire-store lo width s ∷ []),
                     test-added P c free n i Q q (wire-store lo width s) _ ls (wire-test lo width s) d (subst (λ (u : ℕ). Linked P c (q .tests) (q .link) (link u lo width 0) free n i Q) (o ∙ st .own) j),
                     λ x m.
@@ -367,13 +388,6 @@ module _ (text P : List ℕ) (pos c h : ℕ) (t : Seen) (sees : Sees text pos t)
 
 -- ---- the name of wires behind `!`
 
-pub input-of : (P : List ℕ) (c h : ℕ) (m : Meaning) → Means P c h m → kindNumber m ≡ 0 → (lo : ℕ) × (w : ℕ) × (m ≡ anInput lo w) × InputAt P c h lo w
-unfolding Means
-input-of P c h (anInput lo w) k e = (lo, w, refl, k)
-input-of P c h (aStore n w) k e = absurd (omega arith)
-input-of P c h (aDefine ls) k e = absurd (omega arith)
-input-of P c h (aProduction x) k e = absurd (omega arith)
-
 pub define-of : (P : List ℕ) (c h : ℕ) (m : Meaning) → Means P c h m → kindNumber m ≡ 2 → (ds : List Literal) × (m ≡ aDefine ds) × DefineAt P c h ds
 unfolding Means
 define-of P c h (anInput lo w) k e = absurd (omega arith)
@@ -385,21 +399,10 @@ module _ (text P : List ℕ) (pos c h : ℕ) (t : Seen) (sees : Sees text pos t)
   abbrev nots : From
   nots ns x ls = readFrom text pos ns (negated x ls)
 
-  only-inputs : (i : ℕ → ℕ → Step) → Only 0 (seen text t) i (noPair (seen text t)) (noLiterals (seen text t)) (noExp (seen text t))
-  only-inputs i = record { inputs = λ n. absurd (n refl); stores = λ n. refl; defines = λ n. refl; productions = λ n. refl }
-
   pub no-input : (f ≡ 0 → ⊥) → Adds text nots P pos c h q most (answered f (t .place) c q) P
   unfolding Picks step
   no-input n =
-      refuse text nots P pos c h q most _ n (λ ns k ls d x m. on-step text pos t sees ns (negated x ls) _ (ill (pick c ns k) n _ _ _ _ (only-inputs _)))
-
-  pub the-input : f ≡ 0 → (ns : Names) → Cells text P c h (ns .declared)
-      → (lo : ℕ) × (w : ℕ) × InputAt P c cell lo w × ((i s : ℕ → ℕ → Step) (d : List Literal → Step) (p : Exp → Step) → known ns (seen text t) i s d p ≡ i lo w)
-  unfolding Picks byKind
-  the-input z ns k =
-      let p = well (pick c ns k) z in
-      let (lo, w, e, st) = input-of P c cell (p .meaning) (p .means) (p .of) in
-      (lo, w, st, λ i s d o. known-name text pos t sees (p .name) ns (some (anInput lo w)) (p .found ∙ ap some e) i s d o)
+      refuse text nots P pos c h q most _ n (λ ns k ls d x m. on-step text pos t sees ns (negated x ls) _ (ill (pick c ns k) n _ _ _ _ (only-inputs (seen text t) _)))
 
   pub input-past : f ≡ 0 → Past text pos (t .after)
   unfolding Picks
@@ -408,7 +411,7 @@ module _ (text P : List ℕ) (pos c h : ℕ) (t : Seen) (sees : Sees text pos t)
   pub input-inside : f ≡ 0 → (cell + 1 < length P) × (1 ≤ part1 (at P (cell + 1))) × (part0 (at P (cell + 1)) + part1 (at P (cell + 1)) ≤ 64)
   input-inside z =
       let (ns, k) = g .names in
-      let (lo, w, st, on) = the-input z ns k in
+      let (lo, w, st, nm, on) = picked-input text P c h pos t sees f cell pick z ns k in
       let r = g .room in
       (omega (arith, st .used, r .fits, r .inside), rw (st .wide) (st .some), rw (st .low, st .wide) (st .inside))
 
@@ -417,7 +420,7 @@ module _ (text P : List ℕ) (pos c h : ℕ) (t : Seen) (sees : Sees text pos t)
   unfolding step seen
   input-read z lo w el ew r Q =
       from-there text nots (λ ns x ls. readFrom text (t .after) ns (wireMore x ls lo w 0 (t .place))) P pos (t .after) c h q most r Q (let p = input-past z in omega arith) (λ ns k x ls.
-      let (l, u, st, on) = the-input z ns k in
+      let (l, u, st, nm, on) = picked-input text P c h pos t sees f cell pick z ns k in
       on-step text pos t sees ns (negated x ls) _ (on _ _ _ _ ∙ ap₂ (λ (i j : ℕ). go ns (wireMore x ls i j 0 (t .place))) (sym (st .low) ∙ sym el) (sym (st .wide) ∙ sym ew)))
 
 -- ---- the name of a define
@@ -500,11 +503,7 @@ module _ (text P : List ℕ) (pos c h : ℕ) (t : Seen) (sees : Sees text pos t)
 
   -- the meaning that the cell has
   pub meant : (cell ≡ 0 → ⊥) → (ns : Names) → Cells text P c h (ns .declared) → (m : Meaning) × (lookup (bytesOf text t) (ns .declared) ≡ some m) × Means P c cell m
-  meant n ns k = by (lookup (bytesOf text t) (ns .declared)) refl (f c (ns .declared) k)
-    where
-      by : (o : Option Meaning) → lookup (bytesOf text t) (ns .declared) ≡ o → Found P c cell o → (m : Meaning) × (lookup (bytesOf text t) (ns .declared) ≡ some m) × Means P c cell m
-      by none l e = absurd (n e)
-      by (some m) l (p, u, y) = (m, l, y)
+  meant n ns k = present P c cell _ (f c (ns .declared) k) n
 
   pub cell-inside : (cell ≡ 0 → ⊥) → cell + 1 < length P
   unfolding Means
@@ -519,11 +518,7 @@ module _ (text P : List ℕ) (pos c h : ℕ) (t : Seen) (sees : Sees text pos t)
   pub name-unknown : cell ≡ 0 → Adds text (byName text t) P (t .place) c h q most (answered 4 (t .place) c q) P
   unfolding byKind
   name-unknown z =
-      refuse text (byName text t) P (t .place) c h q most _ (λ y. omega arith) (λ ns k ls e x m. by-meaning ns x ls none (missing (lookup (bytesOf text t) (ns .declared)) (f c (ns .declared) k)))
-    where
-      missing : (o : Option Meaning) → Found P c cell o → o ≡ none
-      missing none e = refl
-      missing (some m) e = let l = e .0 in absurd (omega arith)
+      refuse text (byName text t) P (t .place) c h q most _ (λ y. omega arith) (λ ns k ls e x m. by-meaning ns x ls none (missing P c cell _ (f c (ns .declared) k) z))
 
   module _ (n : cell ≡ 0 → ⊥) (kind : ℕ) (is : kind ≡ part0 (at P cell)) where
     numbered : (m : Meaning) → Means P c cell m → kindNumber m ≡ kind

@@ -9,22 +9,21 @@ use borrow.Author.Tests.{le-leb, lt-leb, ne-eqb, eq-eqb}
 use lib.Dec.{leb}
 use lib.Pow.{pow-pos}
 use lib.ListN.{length, length-append}
-use Rattle.meaning.specs.Expression.{Write, from-wire, from-number, Exp, Literal}
+use Rattle.meaning.specs.Expression.{Write, from-wire, from-number}
 use Rattle.meaning.specs.Answers.{Answer, refused, byte}
-use Rattle.meaning.specs.Reading.{Names, Expect, anInput, aStore, byKind, Program, Step, go, fault, sign, step, known, choose, unless, atToken, ifNumber, noPair, noLiterals, noExp, writeStore, writeValue, writeMore}
+use Rattle.meaning.specs.Reading.{Names, Expect, Program, go, fault, sign, step, choose, unless, atToken, ifNumber, writeStore, writeValue, writeMore}
 use Rattle.rules.specs.declared.tokens.Seen.{Seen}
 use Rattle.rules.specs.Seen.{seen, Sees}
 use Rattle.rules.specs.Words.{part0, part1}
-use Rattle.rules.specs.Cells.{at, Link, link, Links, writeLink, writesOn, InputAt, StoreAt, Cells, Declared}
-use Rattle.rules.specs.Picks.{Only, Picks}
+use Rattle.rules.specs.Cells.{at, Link, link, Links, writeLink, writesOn, Cells, Declared}
+use Rattle.rules.specs.Picks.{Picks}
 use Rattle.rules.specs.Reads.{readFrom, Unless, fine, faulted, Past, Behind}
 use Rattle.rules.specs.Conditions.{Room, Linked, behind}
 use Rattle.rules.specs.Tasks.{Gains, Fails, Task, WritesAre, Letter, anyLetter, Writing, behindWrite, behindLetter, Writes, RestWritten, AllWritten}
 use Rattle.rules.specs.Written.{byWire, byWritten}
 use Rattle.rules.proofs.Stepping.{well, ill, wrong, right, yes, no, since, past, inside-text, past-place, on-step, is-on, is-off, number-is, no-number}
 use Rattle.rules.proofs.Kept.{links-kept, cells-kept}
-use Rattle.rules.proofs.Picking.{known-name}
-use Rattle.rules.proofs.LiteralSteps.{link-spent, input-of, store-of}
+use Rattle.rules.proofs.LiteralSteps.{link-spent, only-stores, only-inputs, picked-store, picked-input}
 use Rattle.rules.proofs.TaskLaws.{room-on, room-after, task-fails, task-from, task-then}
 use Rattle.rules.proofs.Put.{extends-refl}
 
@@ -84,28 +83,16 @@ module _ (text P : List ℕ) (c h pos : ℕ) (t : Seen) (sees : Sees text pos t)
   abbrev wires : Names → Letter → List Write → Answer Program
   wires = byWire text t s width
 
-  only-inputs : (p : ℕ → ℕ → Step) → Only 0 (seen text t) p (noPair (seen text t)) (noLiterals (seen text t)) (noExp (seen text t))
-  only-inputs p = record { inputs = λ z. absurd (z refl); stores = λ z. refl; defines = λ z. refl; productions = λ z. refl }
-
   pub wire-fails : (f ≡ 0 → ⊥) → Writes text P (t .place) c h n i wires f (t .place) c n i P
   unfolding Picks
   wire-fails z =
       task-fails text P (t .place) c h (List Write) (List Write) Letter (WritesAre P c n i) (WritesAre P c n i) anyLetter wires behindWrite f (t .place) c P refl z (λ ns k ws a x o.
-      ap (behind text t) (ill (pick c ns k) z _ _ _ _ (only-inputs _)))
-
-  -- the wires
-  the-wires : f ≡ 0 → (ns : Names) → Cells text P c h (ns .declared)
-      → (lo : ℕ) × (w : ℕ) × InputAt P c cell lo w × (t .kind ≡ 18) × ((p r : ℕ → ℕ → Step) (d : List Literal → Step) (o : Exp → Step) → known ns (seen text t) p r d o ≡ p lo w)
-  unfolding Picks byKind
-  the-wires z ns k =
-      let p = well (pick c ns k) z in
-      let (lo, w, e, st) = input-of P c cell (p .meaning) (p .means) (p .of) in
-      (lo, w, st, p .name, λ i s d o. known-name text pos t sees (p .name) ns (some (anInput lo w)) (p .found ∙ ap some e) i s d o)
+      ap (behind text t) (ill (pick c ns k) z _ _ _ _ (only-inputs (seen text t) _)))
 
   pub wires-inside : f ≡ 0 → (cell + 1 < length P) × (t .place < t .after)
   wires-inside z =
       let (ns, k) = g .names in
-      let (lo, w, st, q, on) = the-wires z ns k in
+      let (lo, w, st, q, on) = picked-input text P c h pos t sees f cell pick z ns k in
       let r = g .room in
       (omega (arith, st .used, r .fits, r .inside), past-place text pos t sees q)
 
@@ -114,7 +101,7 @@ module _ (text P : List ℕ) (c h pos : ℕ) (t : Seen) (sees : Sees text pos t)
     unfolding seen
     wire-unequal u =
         task-fails text P (t .place) c h (List Write) (List Write) Letter (WritesAre P c n i) (WritesAre P c n i) anyLetter wires behindWrite 6 (t .place) c P refl (λ y. omega arith) (λ ns k ws a x o.
-        let (lo, w, st, q, on) = the-wires z ns k in
+        let (lo, w, st, q, on) = picked-input text P c h pos t sees f cell pick z ns k in
         ap (behind text t) (on _ _ _ _ ∙ wrong _ _ _ _ (ap not (ne-eqb w width (λ y. u (is ∙ st .wide ∙ y))))))
 
     pub wire-written : wide ≡ width → (low free m j : ℕ) (Q : List ℕ) → low ≡ part0 (at P (cell + 1)) → Linked P c n i (link s low width 0) free m j Q → n ≤ 1
@@ -122,7 +109,7 @@ module _ (text P : List ℕ) (c h pos : ℕ) (t : Seen) (sees : Sees text pos t)
     unfolding seen
     wire-written u low free m j Q el k one e next end =
         write-ended text P (t .place) (t .after) c h n i wires free m j Q (link s low width 0) k one e next end (wires-inside z .1) (λ ns d.
-        let (lo, w, st, q, on) = the-wires z ns d in (
+        let (lo, w, st, q, on) = picked-input text P c h pos t sees f cell pick z ns d in (
           from-wire s lo w,
           ap₂ (λ (a b : ℕ). link s a b 0) (sym (st .low) ∙ sym el) (sym (st .wide) ∙ sym is ∙ u),
           λ y ws.
@@ -171,27 +158,16 @@ module _ (text P : List ℕ) (c h pos : ℕ) (t : Seen) (sees : Sees text pos t)
   abbrev ones : Names → Letter → List Write → Answer Program
   ones = byWritten text t
 
-  only-stores : (p : ℕ → ℕ → Step) → Only 1 (seen text t) (noPair (seen text t)) p (noLiterals (seen text t)) (noExp (seen text t))
-  only-stores p = record { inputs = λ z. refl; stores = λ z. absurd (z refl); defines = λ z. refl; productions = λ z. refl }
-
   pub one-fails : (f ≡ 0 → ⊥) → Writes text P (t .place) c h n i ones f (t .place) c n i P
   unfolding Picks
   one-fails z =
       task-fails text P (t .place) c h (List Write) (List Write) Letter (WritesAre P c n i) (WritesAre P c n i) anyLetter ones behindWrite f (t .place) c P refl z (λ ns k ws a x o.
-      ap (behind text t) (ill (pick c ns k) z _ _ _ _ (only-stores _)))
-
-  the-store : f ≡ 0 → (ns : Names) → Cells text P c h (ns .declared)
-      → (s : ℕ) × (w : ℕ) × StoreAt P c cell s w × (t .kind ≡ 18) × ((p r : ℕ → ℕ → Step) (d : List Literal → Step) (o : Exp → Step) → known ns (seen text t) p r d o ≡ r s w)
-  unfolding Picks byKind
-  the-store z ns k =
-      let p = well (pick c ns k) z in
-      let (s, w, e, st) = store-of P c cell (p .meaning) (p .means) (p .of) in
-      (s, w, st, p .name, λ i s d o. known-name text pos t sees (p .name) ns (some (aStore _ _)) (p .found ∙ ap some e) i s d o)
+      ap (behind text t) (ill (pick c ns k) z _ _ _ _ (only-stores (seen text t) _)))
 
   pub one-inside : f ≡ 0 → (cell + 1 < length P) × (t .place < t .after) × (part0 (at P (cell + 1)) < 16) × (part1 (at P (cell + 1)) ≤ 64)
   one-inside z =
       let (ns, k) = g .names in
-      let (s, w, st, q, on) = the-store z ns k in
+      let (s, w, st, q, on) = picked-store text P c h pos t sees f cell pick z ns k in
       let r = g .room in
       (omega (arith, st .used, r .fits, r .inside), past-place text pos t sees q, rw (st .own) (st .few), rw (st .wide) (st .inside))
 
@@ -200,7 +176,7 @@ module _ (text P : List ℕ) (c h pos : ℕ) (t : Seen) (sees : Sees text pos t)
     unfolding seen
     one-crowded l =
         task-fails text P (t .place) c h (List Write) (List Write) Letter (WritesAre P c n i) (WritesAre P c n i) anyLetter ones behindWrite 7 (t .place) c P refl (λ y. omega arith) (λ ns k ws a x o.
-        let (s, w, st, q, on) = the-store z ns k in
+        let (s, w, st, q, on) = picked-store text P c h pos t sees f cell pick z ns k in
         ap (behind text t) (on _ _ _ _ ∙ wrong _ _ _ _ (le-leb 2 (length ws) (omega (arith, a .count)))))
 
     -- the arrow is expected
@@ -208,7 +184,7 @@ module _ (text P : List ℕ) (c h pos : ℕ) (t : Seen) (sees : Sees text pos t)
         → ones ns x ws ≡ readFrom text (t .after) ns (sign 17 (writeValue (x .within) (x .literals) ws (part0 (at P (cell + 1))) (part1 (at P (cell + 1)))))
     unfolding seen
     arrow l ns k x ws a =
-        let (s, w, st, q, on) = the-store z ns k in
+        let (s, w, st, q, on) = picked-store text P c h pos t sees f cell pick z ns k in
         ap (behind text t) (on _ _ _ _ ∙ right _ _ _ _ (lt-leb 2 (length ws) (omega (arith, a .count))))
         ∙ ap₂ (λ (u v : ℕ). readFrom text (t .after) ns (sign 17 (writeValue (x .within) (x .literals) ws u v))) (sym (st .own)) (sym (st .wide))
 
