@@ -14,11 +14,13 @@ pub mod Accept
 pub mod Shaped
 pub mod RowCount
 pub mod Prefix
+pub mod Ends
 pub mod Walk
 pub mod Calls
 pub mod Steps
 pub mod Stops
 pub mod Summary
+pub mod Shifted
 pub mod Rows
 pub mod Blame
 pub mod Within

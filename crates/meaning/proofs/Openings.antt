@@ -26,7 +26,7 @@ use Rattle.meaning.proofs.Rows.{rows-no-more, program-held}
 use Rattle.meaning.proofs.RowCount.{rows-below-1024}
 use Rattle.meaning.proofs.Rules.{unsatisfiable-at, ambiguous-at}
 use Rattle.meaning.proofs.Calls.{calls-right}
-use Rattle.meaning.proofs.Within.{Each, Within, ExpWithin, read-within}
+use Rattle.meaning.proofs.Within.{Each, Within, LetterWithin, ExpWithin, read-within}
 
 -- ---- accepted: nothing was wrong
 
@@ -99,7 +99,7 @@ module _ (text : List ℕ) (o : Opened) (e : openText text ≡ value o) where
   unfolding asOpened
   numbered = sym (ap (λ z. z .monitors) (a .opens))
 
-  all-read : AllRead (o .monitors)
+  pub all-read : AllRead (o .monitors)
   all-read m i =
       let (d, j, p) = map-∈ (renumbered 0) (a .program .monitors) (subst (λ ms. m ∈ ms) numbered i) in
       (subst (Ordered 0) p (renumbered-ordered 0 d), a .shaped m i)
@@ -126,7 +126,7 @@ module _ (text : List ℕ) (o : Opened) (e : openText text ≡ value o) where
 
 -- ---- rules 9 and 12 of a program that reading gives are those of words
 
-each-in : {A : Type 0} (P : A → Type 0) (xs : List A) → Each P xs → (x : A) → x ∈ xs → P x
+pub each-in : {A : Type 0} (P : A → Type 0) (xs : List A) → Each P xs → (x : A) → x ∈ xs → P x
 each-in P [] g x i = absurd (no-∈ i)
 each-in P (y ∷ ys) (g, gs) x i = ⊎-elim (λ p. subst P (sym p) g) (λ j. each-in P ys gs x j) (cons-∈ i)
 
@@ -139,9 +139,9 @@ module _ (n k : ℕ) where
   renumbered-within i (star e) g = renumbered-within i e g
   renumbered-within i (pipe e f) (g, h) = (renumbered-within i e g, renumbered-within (i + size e) f h)
 
-  letters-within : (e : Exp) → ExpWithin n k e → (l : Letter) → l ∈ letters e → Each (Within n k) (l .literals)
+  letters-within : (e : Exp) → ExpWithin n k e → (l : Letter) → l ∈ letters e → LetterWithin n k (l .literals) (l .writes)
   unfolding letters
-  letters-within (letter x) (g, h) l i = subst (λ y. Each (Within n k) (y .literals)) (sym (one-∈ i)) g
+  letters-within (letter x) g l i = subst (λ y. LetterWithin n k (y .literals) (y .writes)) (sym (one-∈ i)) g
   letters-within (seq e f) (g, h) l i = ⊎-elim (λ j. letters-within e g l j) (λ j. letters-within f h l j) (append-∈ (letters e) i)
   letters-within (alt e f) (g, h) l i = ⊎-elim (λ j. letters-within e g l j) (λ j. letters-within f h l j) (append-∈ (letters e) i)
   letters-within (star e) g l i = letters-within e g l i
@@ -188,33 +188,37 @@ module _ (text : List ℕ) (p : Program) (e : read text ≡ value p) (m : Exp) (
   k = length (p .initial)
 
   -- the program lies within its wires and stores
+  pub letter-within : (l : Letter) → l ∈ letters m → LetterWithin (p .wires) (length (p .initial)) (l .literals) (l .writes)
+  letter-within l j =
+      let (d, r, q) = map-∈ (renumbered 0) (p .monitors) i in
+      letters-within (p .wires) (length (p .initial)) m
+      (subst (ExpWithin (p .wires) (length (p .initial))) q (renumbered-within (p .wires) (length (p .initial)) 0 d (each-in (ExpWithin (p .wires) (length (p .initial))) (p .monitors) (read-within text p e .monitors) d r))) l j
+
   within : (l : Letter) → l ∈ letters m → Each (Within n k) (l .literals)
   unfolding n k
-  within l j =
-      let (d, r, q) = map-∈ (renumbered 0) (p .monitors) i in
-      letters-within n k m (subst (ExpWithin n k) q (renumbered-within n k 0 d (each-in (ExpWithin n k) (p .monitors) (read-within text p e .1) d r))) l j
+  within l j = letter-within l j .literals
 
-  sized : SizedLetters m
+  pub letters-sized : SizedLetters m
   unfolding n k
-  sized l j x r = sized-if n k (read-within text p e .0) x (each-in (Within n k) (l .literals) (within l j) x r)
+  letters-sized l j x r = sized-if n k (read-within text p e .wires) x (each-in (Within n k) (l .literals) (within l j) x r)
 
   -- a letter of a monitor is at fault for 9 exactly where no word of the text's wires meets its wire literals
   pub rule-9 : (a : ℕ) → a ∈ unsatisfiable m ↔ UnsatisfiableAt m a
-  rule-9 a = unsatisfiable-at m sized a
+  rule-9 a = unsatisfiable-at m letters-sized a
 
   pub rule-9-words : (l : Letter) → l ∈ letters m → Unsatisfiable l ↔ ((w : ℕ) → w < 2 ^ p .wires → T (meetsWires l w) → ⊥)
   unfolding n k
-  rule-9-words l j = no-word n k (read-within text p e .0) l (within l j)
+  rule-9-words l j = no-word n k (read-within text p e .wires) l (within l j)
 
   -- and for 12 exactly where one word meets its wire literals and those of another letter side by side with it
   pub rule-12 : (a : ℕ) → a ∈ ambiguous m ↔ AmbiguousAt m a
-  rule-12 a = ambiguous-at m sized a
+  rule-12 a = ambiguous-at m letters-sized a
 
   pub rule-12-words : (x y : Letter) → x ∈ letters m → y ∈ letters m
       → Together x y ↔ ((w : ℕ) × (w < 2 ^ p .wires) × T (meetsWires x w) × T (meetsWires y w))
   unfolding n k
   rule-12-words x y a b =
-      let bits = read-within text p e .0 in (
+      let bits = read-within text p e .wires in (
         λ (w, h, s, t). (w % 2 ^ n, mod-lt w (pow-pos n), meets-cut n k bits x (within x a) w s, meets-cut n k bits y (within y b) w t),
         λ (w, h, s, t). (w, below n k bits x (within x a) w h, s, t),
       )

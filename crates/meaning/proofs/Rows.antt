@@ -1,7 +1,7 @@
 -- The rows of a program: one for each letter and each operator, no more, and as a table they hold its monitors. Assumes nothing.
 use mathlib.Core.Path.{_≡_, refl, _∙_, ap₂, subst}
 use mathlib.Core.List.{List, [], _∷_, _++_, append-assoc, append-nil}
-use Prim.Native.Nat.{ℕ, suc, _+_, _≤_}
+use Prim.Native.Nat.{ℕ, suc, _+_}
 use native.Mathlib.Omega.{arith}
 use lib.ListN.{length, length-append, getD}
 use lib.Seq.{getD-append-seam}
@@ -59,20 +59,20 @@ letters-length r (pipe e f) = two-letters r e f (letters-length (suc r) e) (lett
 
 -- ---- what they hold
 
-module _ (R : Table) (top : ℕ) (place : ℕ → ℕ) where
+module _ (R : Table) (place : ℕ → ℕ) where
   -- row r holds e and points at the row up
   abbrev Right : (r up : ℕ) → Exp → Type 0
-  Right r up e = Holds R top place r e × (R r .up ≡ up)
+  Right r up e = Holds R place r e × (R r .up ≡ up)
 
   -- An operator's row r, behind which the rows of its two operands stand, and the rows of their letters; what is known of each operand where its own stand.
-  operands : (κ : Kind) (r up k : ℕ) (e f : Exp) → top ≤ r
+  operands : (κ : Kind) (r up k : ℕ) (e f : Exp)
       → Stands R r (row κ (suc r) (suc r + rows e) up ∷ (laid (suc r) r e ++ laid (suc r + rows e) r f))
       → Stands place k (letterRows (suc r) e ++ letterRows (suc r + rows e) f)
       → (Stands R (suc r) (laid (suc r) r e) → Stands place k (letterRows (suc r) e) → Right (suc r) r e)
       → (Stands R (suc r + rows e) (laid (suc r + rows e) r f) → Stands place (k + size e) (letterRows (suc r + rows e) f) → Right (suc r + rows e) r f)
-      → (R r .kind ≡ κ) × Under R top r (R r .left) × Under R top r (R r .right) × (R r .right ≡ R r .left → ⊥)
-      × Holds R top place (R r .left) e × Holds R top place (R r .right) f
-  operands κ r up k e f h s p left right =
+      → (R r .kind ≡ κ) × Under R r (R r .left) × Under R r (R r .right) × (R r .right ≡ R r .left → ⊥)
+      × Holds R place (R r .left) e × Holds R place (R r .right) f
+  operands κ r up k e f s p left right =
       let (a, b) = parted R (suc r) (rows e) (laid (suc r) r e) (laid (suc r + rows e) r f) (laid-length (suc r) r e) (s .1) in
       let (c, d) = parted place k (size e) (letterRows (suc r) e) (letterRows (suc r + rows e) f) (letters-length (suc r) e) p in
       let x = left a c in
@@ -81,25 +81,25 @@ module _ (R : Table) (top : ℕ) (place : ℕ → ℕ) where
       rw (s .0) (refl, (x .1, λ z. absurd (omega arith)), (y .1, λ z. absurd (omega arith)), λ z. absurd (omega arith), x .0, y .0)
 
   -- Where the rows laid for e stand in a table, that table holds e.
-  pub laid-holds : (r up k : ℕ) (e : Exp) → top ≤ r → Stands R r (laid r up e) → Ordered k e → Stands place k (letterRows r e)
-      → Holds R top place r e × (R r .up ≡ up)
+  pub laid-holds : (r up k : ℕ) (e : Exp) → Stands R r (laid r up e) → Ordered k e → Stands place k (letterRows r e)
+      → Holds R place r e × (R r .up ≡ up)
   unfolding laid letterRows
-  laid-holds r up k (letter l) h s o p = ((rw (s .0) refl, rw o (p .0)), rw (s .0) refl)
-  laid-holds r up k (seq e f) h s o p = (
-    operands is-seq r up k e f h s p (λ a b. laid-holds (suc r) r k e (omega arith) a (o .0) b)
-        (λ a b. laid-holds (suc r + rows e) r (k + size e) f (omega arith) a (o .1) b),
+  laid-holds r up k (letter l) s o p = ((rw (s .0) refl, rw o (p .0)), rw (s .0) refl)
+  laid-holds r up k (seq e f) s o p = (
+    operands is-seq r up k e f s p (λ a b. laid-holds (suc r) r k e a (o .0) b)
+        (λ a b. laid-holds (suc r + rows e) r (k + size e) f a (o .1) b),
     rw (s .0) refl,
   )
-  laid-holds r up k (alt e f) h s o p =
-      let (q, u, v, n, x, y) = operands is-alt r up k e f h s p (λ a b. laid-holds (suc r) r k e (omega arith) a (o .0) b)
-      (λ a b. laid-holds (suc r + rows e) r (k + size e) f (omega arith) a (o .1) b) in
+  laid-holds r up k (alt e f) s o p =
+      let (q, u, v, n, x, y) = operands is-alt r up k e f s p (λ a b. laid-holds (suc r) r k e a (o .0) b)
+      (λ a b. laid-holds (suc r + rows e) r (k + size e) f a (o .1) b) in
       ((q, u, v, x, y), rw (s .0) refl)
-  laid-holds r up k (star e) h s o p =
-      let x = laid-holds (suc r) r k e (omega arith) (s .1) o p in
+  laid-holds r up k (star e) s o p =
+      let x = laid-holds (suc r) r k e (s .1) o p in
       rw (s .0) ((refl, (x .1, λ z. absurd (omega arith)), x .0), refl)
-  laid-holds r up k (pipe e f) h s o p = (
-    operands is-pipe r up k e f h s p (λ a b. laid-holds (suc r) r k e (omega arith) a (o .0) b)
-        (λ a b. laid-holds (suc r + rows e) r (k + size e) f (omega arith) a (o .1) b),
+  laid-holds r up k (pipe e f) s o p = (
+    operands is-pipe r up k e f s p (λ a b. laid-holds (suc r) r k e a (o .0) b)
+        (λ a b. laid-holds (suc r + rows e) r (k + size e) f a (o .1) b),
     rw (s .0) refl,
   )
 
@@ -124,8 +124,10 @@ behind pre r e [] o = tt
 behind pre r e (m ∷ ms) o =
     let rest = laidAll (r + rows m) ms in
     let stands : Stands (asTable (pre ++ (laid r r m ++ rest))) r (laid r r m)
-    = subst (λ (k : ℕ). Stands (asTable (pre ++ (laid r r m ++ rest))) k (laid r r m)) e (list-stands noRow pre (laid r r m) rest) in (
-      laid-holds (asTable (pre ++ (laid r r m ++ rest))) r (letterRow r m) r r 0 m (omega arith) stands (o m (here refl)) (letter-rows r m) .0,
+    = subst (λ (k : ℕ). Stands (asTable (pre ++ (laid r r m ++ rest))) k (laid r r m)) e (list-stands noRow pre (laid r r m) rest) in
+    let (held, own) = laid-holds (asTable (pre ++ (laid r r m ++ rest))) (letterRow r m) r r 0 m stands (o m (here refl)) (letter-rows r m) in (
+      held,
+      own,
       subst (λ (l : List Row). HoldsAll (asTable l) (r + rows m) ms) (append-assoc pre (laid r r m) rest)
           (behind (pre ++ laid r r m) (r + rows m) (length-append pre (laid r r m) ∙ ap₂ _+_ e (laid-length r r m)) ms (λ n i. o n (there i))),
     )

@@ -172,7 +172,7 @@ possible m e = by (unsatisfiable (renumbered 0 m)) (right-9 0 m ∙ ap (shifted 
 
 -- ---- 10
 
-nullable-renumbered : (k : ℕ) (e : Exp) → nullable (renumbered k e) ≡ nullable e
+pub nullable-renumbered : (k : ℕ) (e : Exp) → nullable (renumbered k e) ≡ nullable e
 unfolding nullable renumbered
 nullable-renumbered k (letter l) = refl
 nullable-renumbered k (seq e f) = ap₂ _&&_ (nullable-renumbered k e) (nullable-renumbered (k + size e) f)

@@ -1,15 +1,16 @@
--- Every literal and every write of a program that reading gives lies within it: its wires are the text's, its stores are declared, and a number that a wire is compared with
--- fits it. What holds of all that is kept while a text is read.
+-- Every literal and every write of a program that reading gives lies within it: its wires are the text's, its stores are declared, a number that a wire is compared with
+-- fits it, and other numbers fit a word. A letter has two store tests and two writes at most. What holds of all that is kept while a text is read.
 -- Assumes nothing.
-use mathlib.Core.Path.{_≡_, sym, subst}
+use mathlib.Core.Path.{_≡_, refl, sym, subst}
 use mathlib.Core.Bool.{Bool, true, false, false≢true, cond, _||_}
 use mathlib.Core.List.{List, [], _∷_, _++_}
 use mathlib.Core.Option.{Option, none, some}
 use Prim.Native.Nat.{ℕ, suc, _+_, _^_, _≤_, _<_}
-use native.Mathlib.Nat.{le-refl}
+use native.Mathlib.Nat.{le-refl, lt-of-lt-of-le, zero-add}
 use native.Mathlib.Omega.{arith}
 use lib.Dec.{eqb, leb, ltb}
 use lib.ListN.{length, length-append}
+use lib.Pow.{pow-mono}
 use borrow.Author.Tests.{leb-false, ltb-false, eqb-true}
 use Rattle.lexer.specs.Bytes.{Entry, same, lookup}
 use Rattle.lexer.specs.Tokens as token
@@ -17,7 +18,7 @@ use Rattle.lexer.specs.Tokens.{Token, Placed, tokens}
 use Rattle.meaning.specs.Expression.{Literal, wire, wire-store, store, Write, from-wire, from-number, Exp, letter, seq, alt, star, pipe}
 use Rattle.meaning.specs.Answers.{value, refused, byte, overlong, oversize, crowded, twice}
 use Rattle.meaning.specs.Reading
-use Rattle.meaning.specs.Reading.{Meaning, anInput, aStore, aDefine, aProduction, Names, noNames, Declaration, newInput, newStore, newDefine, newProduction, declare, Level, Open, Context, inDefine, inLetter, Expect, statement, sign, nought, closing, inputName, inputMore, inputHigh, storeName, storeMore, storeHigh, storeFirst, defineName, operand, literal, negated, wireMore, bitIndex, wireEquals, storeEquals, literalMore, writeStore, writeValue, writeMore, operandMore, monitorName, monitorMore, textEnd, Program, Step, go, finished, fault, choose, atToken, notHere, unless, known, newName, step, readOn, read, behindOperand, behindLiteral, literalName, whole}
+use Rattle.meaning.specs.Reading.{Meaning, anInput, aStore, aDefine, aProduction, Names, noNames, Declaration, newInput, newStore, newDefine, newProduction, declare, Level, Open, Context, inDefine, inLetter, Expect, statement, sign, nought, closing, inputName, inputMore, inputHigh, storeName, storeMore, storeHigh, storeFirst, defineName, operand, literal, negated, wireMore, bitIndex, wireEquals, storeEquals, literalMore, writeStore, writeValue, writeMore, operandMore, monitorName, monitorMore, textEnd, Program, Step, go, finished, fault, choose, atToken, notHere, unless, known, newName, step, readOn, read, behindOperand, behindLiteral, literalName, storeTests, tooMany, whole}
 use Rattle.meaning.proofs.ListLaws.{clash}
 use Rattle.meaning.proofs.Steps.{of-choose, of-if-number, of-unless, of-name, of-number, of-known}
 
@@ -44,14 +45,21 @@ each-weaken P Q f (x ∷ xs) (p, ps) = (f x p, each-weaken P Q f xs ps)
 abbrev pub Within : (n k : ℕ) → Literal → Type 0
 Within n k (wire lo w v) = (v < 2 ^ w) × (lo + w ≤ n)
 Within n k (wire-store lo w s) = (lo + w ≤ n) × (s < k)
-Within n k (store s v) = s < k
+Within n k (store s v) = (s < k) × (v < 2 ^ 64)
 
 abbrev pub WriteWithin : (n k : ℕ) → Write → Type 0
 WriteWithin n k (from-wire s lo w) = (s < k) × (lo + w ≤ n)
-WriteWithin n k (from-number s v) = s < k
+WriteWithin n k (from-number s v) = (s < k) × (v < 2 ^ 64)
+
+-- a letter's literals and writes
+pub record LetterWithin (n k : ℕ) (ls : List Literal) (ws : List Write) : Type 0 where
+  pub literals : Each (Within n k) ls
+  pub writes : Each (WriteWithin n k) ws
+  pub few-tests : storeTests ls ≤ 2
+  pub few-writes : length ws ≤ 2
 
 abbrev pub ExpWithin : (n k : ℕ) → Exp → Type 0
-ExpWithin n k (letter l) = Each (Within n k) (l .literals) × Each (WriteWithin n k) (l .writes)
+ExpWithin n k (letter l) = LetterWithin n k (l .literals) (l .writes)
 ExpWithin n k (seq e f) = ExpWithin n k e × ExpWithin n k f
 ExpWithin n k (alt e f) = ExpWithin n k e × ExpWithin n k f
 ExpWithin n k (star e) = ExpWithin n k e
@@ -59,15 +67,18 @@ ExpWithin n k (pipe e f) = ExpWithin n k e × ExpWithin n k f
 
 abbrev MeaningWithin : (n k : ℕ) → Meaning → Type 0
 MeaningWithin n k (anInput lo w) = lo + w ≤ n
-MeaningWithin n k (aStore s w) = s < k
+MeaningWithin n k (aStore s w) = (s < k) × (w ≤ 64)
 MeaningWithin n k (aDefine ls) = Each (Within n k) ls
 MeaningWithin n k (aProduction e) = ExpWithin n k e
 
 abbrev storesOf : Names → ℕ
 storesOf ns = length (ns .initial)
 
-abbrev NamesWithin : Names → Type 0
-NamesWithin ns = (ns .wires ≤ 64) × Each (λ e. MeaningWithin (ns .wires) (storesOf ns) (e .meaning)) (ns .declared)
+record NamesWithin (ns : Names) : Type 0 where
+  wires : ns .wires ≤ 64
+  names : Each (λ e. MeaningWithin (ns .wires) (storesOf ns) (e .meaning)) (ns .declared)
+  stores : storesOf ns ≤ 16
+  values : Each (λ v. v < 2 ^ 64) (ns .initial)
 
 -- ---- more wires and more stores
 
@@ -75,15 +86,20 @@ module _ (n k m l : ℕ) (more : n ≤ m) (stores : k ≤ l) where
   literal-more : (x : Literal) → Within n k x → Within m l x
   literal-more (wire lo w v) (g, h) = (g, omega arith)
   literal-more (wire-store lo w s) (g, h) = (omega arith, omega arith)
-  literal-more (store s v) g = omega arith
+  literal-more (store s v) (g, h) = (omega arith, h)
 
   write-more : (x : Write) → WriteWithin n k x → WriteWithin m l x
   write-more (from-wire s lo w) (g, h) = (omega arith, omega arith)
-  write-more (from-number s v) g = omega arith
+  write-more (from-number s v) (g, h) = (omega arith, h)
 
   exp-more : (e : Exp) → ExpWithin n k e → ExpWithin m l e
-  exp-more (letter x) (g, h) =
-      (each-weaken (Within n k) (Within m l) literal-more (x .literals) g, each-weaken (WriteWithin n k) (WriteWithin m l) write-more (x .writes) h)
+  exp-more (letter x) g =
+      record {
+        literals = each-weaken (Within n k) (Within m l) literal-more (x .literals) (g .literals);
+        writes = each-weaken (WriteWithin n k) (WriteWithin m l) write-more (x .writes) (g .writes);
+        few-tests = g .few-tests;
+        few-writes = g .few-writes;
+      }
   exp-more (seq e f) (g, h) = (exp-more e g, exp-more f h)
   exp-more (alt e f) (g, h) = (exp-more e g, exp-more f h)
   exp-more (star e) g = exp-more e g
@@ -91,7 +107,7 @@ module _ (n k m l : ℕ) (more : n ≤ m) (stores : k ≤ l) where
 
   meaning-more : (x : Meaning) → MeaningWithin n k x → MeaningWithin m l x
   meaning-more (anInput lo w) g = omega arith
-  meaning-more (aStore s w) g = omega arith
+  meaning-more (aStore s w) (g, h) = (omega arith, h)
   meaning-more (aDefine ls) g = each-weaken (Within n k) (Within m l) literal-more ls g
   meaning-more (aProduction e) g = exp-more e g
 
@@ -114,9 +130,18 @@ abbrev ContextWithin : (n k : ℕ) → Context → Type 0
 ContextWithin n k (inDefine s) = Unit {0}
 ContextWithin n k (inLetter o) = OpenWithin n k o
 
+-- so many store tests more are few enough for a letter
+abbrev Few : Context → List Literal → (more : ℕ) → Type 0
+Few (inDefine s) ls more = Unit {0}
+Few (inLetter o) ls more = storeTests ls + more ≤ 2
+
+-- literals, behind which so many store tests may come
+abbrev LiteralsWithin : (n k : ℕ) → Context → List Literal → (more : ℕ) → Type 0
+LiteralsWithin n k c ls more = ContextWithin n k c × Each (Within n k) ls × Few c ls more
+
 abbrev DeclarationWithin : (n k : ℕ) → Declaration → Type 0
 DeclarationWithin n k (newInput s width) = n + width ≤ 64
-DeclarationWithin n k (newStore s width v) = Unit {0}
+DeclarationWithin n k (newStore s width v) = (k < 16) × (width ≤ 64) × (v < 2 ^ 64)
 DeclarationWithin n k (newDefine s ls) = Each (Within n k) ls
 DeclarationWithin n k (newProduction s e) = ExpWithin n k e
 
@@ -129,28 +154,31 @@ ExpectWithin n k inputName = Unit {0}
 ExpectWithin n k (inputMore s) = n + 1 ≤ 64
 ExpectWithin n k (inputHigh s) = Unit {0}
 ExpectWithin n k storeName = Unit {0}
-ExpectWithin n k (storeMore s) = Unit {0}
-ExpectWithin n k (storeHigh s) = Unit {0}
-ExpectWithin n k (storeFirst s w) = Unit {0}
+ExpectWithin n k (storeMore s) = k < 16
+ExpectWithin n k (storeHigh s) = k < 16
+ExpectWithin n k (storeFirst s w) = (k < 16) × (w ≤ 64)
 ExpectWithin n k defineName = Unit {0}
 ExpectWithin n k (operand o) = OpenWithin n k o
-ExpectWithin n k (literal c ls) = ContextWithin n k c × Each (Within n k) ls
-ExpectWithin n k (negated c ls) = ContextWithin n k c × Each (Within n k) ls
-ExpectWithin n k (wireMore c ls lo w v p) = ContextWithin n k c × Each (Within n k) ls × (lo + w ≤ n) × (v < 2)
-ExpectWithin n k (bitIndex c ls lo w v) = ContextWithin n k c × Each (Within n k) ls × (lo + w ≤ n) × (v < 2)
-ExpectWithin n k (wireEquals c ls lo w) = ContextWithin n k c × Each (Within n k) ls × (lo + w ≤ n)
-ExpectWithin n k (storeEquals c ls s w) = ContextWithin n k c × Each (Within n k) ls × (s < k)
-ExpectWithin n k (literalMore c ls) = ContextWithin n k c × Each (Within n k) ls
-ExpectWithin n k (writeStore o ls ws) = OpenWithin n k o × Each (Within n k) ls × Each (WriteWithin n k) ws
-ExpectWithin n k (writeValue o ls ws s w) = OpenWithin n k o × Each (Within n k) ls × Each (WriteWithin n k) ws × (s < k)
-ExpectWithin n k (writeMore o ls ws) = OpenWithin n k o × Each (Within n k) ls × Each (WriteWithin n k) ws
+ExpectWithin n k (literal c ls) = LiteralsWithin n k c ls 0
+ExpectWithin n k (negated c ls) = LiteralsWithin n k c ls 0
+ExpectWithin n k (wireMore c ls lo w v p) = LiteralsWithin n k c ls 0 × (lo + w ≤ n) × (v < 2)
+ExpectWithin n k (bitIndex c ls lo w v) = LiteralsWithin n k c ls 0 × (lo + w ≤ n) × (v < 2)
+ExpectWithin n k (wireEquals c ls lo w) = LiteralsWithin n k c ls 0 × (lo + w ≤ n)
+ExpectWithin n k (storeEquals c ls s w) = LiteralsWithin n k c ls 1 × (s < k) × (w ≤ 64)
+ExpectWithin n k (literalMore c ls) = LiteralsWithin n k c ls 0
+ExpectWithin n k (writeStore o ls ws) = OpenWithin n k o × LetterWithin n k ls ws
+ExpectWithin n k (writeValue o ls ws s w) = OpenWithin n k o × LetterWithin n k ls ws × (length ws < 2) × (s < k) × (w ≤ 64)
+ExpectWithin n k (writeMore o ls ws) = OpenWithin n k o × LetterWithin n k ls ws
 ExpectWithin n k (operandMore o e b) = OpenWithin n k o × ExpWithin n k e
 ExpectWithin n k (monitorName ms) = Each (ExpWithin n k) ms
 ExpectWithin n k (monitorMore ms) = Each (ExpWithin n k) ms
 ExpectWithin n k (textEnd ms) = Each (ExpWithin n k) ms
 
-abbrev ProgramWithin : Program → Type 0
-ProgramWithin p = (p .wires ≤ 64) × Each (ExpWithin (p .wires) (length (p .initial))) (p .monitors)
+pub record ProgramWithin (p : Program) : Type 0 where
+  pub wires : p .wires ≤ 64
+  pub monitors : Each (ExpWithin (p .wires) (length (p .initial))) (p .monitors)
+  pub stores : length (p .initial) ≤ 16
+  pub values : Each (λ v. v < 2 ^ 64) (p .initial)
 
 abbrev StepWithin : Step → Type 0
 StepWithin (go ns x) = NamesWithin ns × ExpectWithin (ns .wires) (storesOf ns) x
@@ -171,13 +199,49 @@ found n k name (x ∷ es) m (g, gs) e = at (same name (x .spelling)) e (λ f. fo
 
 declared-within : (d : Declaration) (ns : Names) → NamesWithin ns → DeclarationWithin (ns .wires) (storesOf ns) d → NamesWithin (declare d ns)
 unfolding declare
-declared-within (newInput s w) ns (b, g) h =
-    (h, (le-refl (ns .wires + w), entries-more (ns .wires) (storesOf ns) (ns .wires + w) (storesOf ns) (omega arith) (le-refl _) (ns .declared) g))
-declared-within (newStore s w v) ns (b, g) h =
-    let l : storesOf ns < length (ns .initial ++ (v ∷ [])) = rw length-append (omega arith) in
-    (b, (l, entries-more (ns .wires) (storesOf ns) (ns .wires) (length (ns .initial ++ (v ∷ []))) (le-refl _) (omega (arith, l)) (ns .declared) g))
-declared-within (newDefine s ls) ns (b, g) h = (b, (h, g))
-declared-within (newProduction s e) ns (b, g) h = (b, (h, g))
+declared-within (newInput s w) ns g h =
+    record {
+      wires = h;
+      names = (le-refl (ns .wires + w), entries-more (ns .wires) (storesOf ns) (ns .wires + w) (storesOf ns) (omega arith) (le-refl _) (ns .declared) (g .names));
+      stores = g .stores;
+      values = g .values;
+    }
+declared-within (newStore s w v) ns g (few, wide, fits) =
+    let l : length (ns .initial ++ (v ∷ [])) ≡ storesOf ns + 1 = length-append (ns .initial) (v ∷ []) in
+    record {
+      wires = g .wires;
+      names = (
+        (omega (arith, l), wide),
+        entries-more (ns .wires) (storesOf ns) (ns .wires) (length (ns .initial ++ (v ∷ []))) (le-refl _) (omega (arith, l)) (ns .declared) (g .names),
+      );
+      stores = omega (arith, l);
+      values = each-more (λ x. x < 2 ^ 64) (ns .initial) v (g .values) fits;
+    }
+declared-within (newDefine s ls) ns g h = record { wires = g .wires; names = (h, g .names); stores = g .stores; values = g .values }
+declared-within (newProduction s e) ns g h = record { wires = g .wires; names = (h, g .names); stores = g .stores; values = g .values }
+
+-- ---- literals
+
+pub count-append : (ls ds : List Literal) → storeTests (ls ++ ds) ≡ storeTests ls + storeTests ds
+unfolding storeTests
+count-append [] ds = sym (zero-add _)
+count-append (wire lo w v ∷ ls) ds = count-append ls ds
+count-append (wire-store lo w s ∷ ls) ds = omega (arith, count-append ls ds)
+count-append (store s v ∷ ls) ds = omega (arith, count-append ls ds)
+
+few-if : (c : Context) (ls : List Literal) (more : ℕ) → tooMany c ls more ≡ false → Few c ls more
+few-if (inDefine s) ls more e = tt
+few-if (inLetter o) ls more e = ltb-false 2 (storeTests ls + more) e
+
+few-append : (c : Context) (ls ds : List Literal) → Few c ls (storeTests ds) → Few c (ls ++ ds) 0
+few-append (inDefine s) ls ds h = tt
+few-append (inLetter o) ls ds h = omega (arith, count-append ls ds)
+
+literals-append : (n k : ℕ) (c : Context) (ls ds : List Literal) → LiteralsWithin n k c ls (storeTests ds) → Each (Within n k) ds → LiteralsWithin n k c (ls ++ ds) 0
+literals-append n k c ls ds (g, h, few) q = (g, each-append (Within n k) ls ds h q, few-append c ls ds few)
+
+fits-word : (w v : ℕ) → w ≤ 64 → leb (2 ^ w) v ≡ false → v < 2 ^ 64
+fits-word w v l e = lt-of-lt-of-le (leb-false (2 ^ w) v e) (pow-mono {j = 64} l)
 
 -- ---- expressions
 
@@ -197,6 +261,10 @@ module _ (n k : ℕ) (l : Level) (e : Exp) (g : LevelWithin n k l) (h : ExpWithi
   whole-within = joined n k alt (λ d f p q. (p, q)) (l .alts) (Reading.sequenced l e) (g .0) sequenced-within
 
 -- ---- one token
+
+first : (a b : Bool) → (a || b) ≡ false → a ≡ false
+first true b e = e
+first false b e = refl
 
 second : (a b : Bool) → (a || b) ≡ false → b ≡ false
 second true b e = absurd (false≢true (sym e))
@@ -231,15 +299,15 @@ module _ (ns : Names) (names : NamesWithin ns) (t : Placed) where
   right : (wrong : Bool) (number : ℕ) (next : Step) → (wrong ≡ false → P next) → P (unless wrong number t next)
   right wrong number next p = of-unless P t own wrong number next p
 
-  new : (a b : Bool) (next : List ℕ → Step) → (a ≡ false → (s : List ℕ) → P (next s)) → P (newName ns t a b next)
+  new : (a b : Bool) (next : List ℕ → Step) → (a ≡ false → b ≡ false → (s : List ℕ) → P (next s)) → P (newName ns t a b next)
   unfolding newName
-  new a b next p = of-name P t own _ (λ s. right _ twice _ (λ e. right a oversize _ (λ f. right _ crowded _ (λ g. p f s))))
+  new a b next p = of-name P t own _ (λ s. right _ twice _ (λ e. right a oversize _ (λ f. right _ crowded _ (λ g. p f (first b _ g) s))))
 
-  with-known : (i s : ℕ → ℕ → Step) (d : List Literal → Step) (p : Exp → Step) → ((lo w : ℕ) → lo + w ≤ ns .wires → P (i lo w)) → ((n w : ℕ) → n < storesOf ns → P (s n w))
+  with-known : (i s : ℕ → ℕ → Step) (d : List Literal → Step) (p : Exp → Step) → ((lo w : ℕ) → lo + w ≤ ns .wires → P (i lo w)) → ((n w : ℕ) → n < storesOf ns → w ≤ 64 → P (s n w))
       → ((ls : List Literal) → Each (Within (ns .wires) (storesOf ns)) ls → P (d ls)) → ((e : Exp) → ExpWithin (ns .wires) (storesOf ns) e → P (p e)) → P (known ns t i s d p)
   with-known i s d p pi ps pd pp =
-      of-known P t own ns i s d p (λ n a b e. pi a b (found (ns .wires) (storesOf ns) n (ns .declared) (anInput a b) (names .1) e)) (λ n a b e. ps a b (found (ns .wires) (storesOf ns) n (ns .declared) (aStore a b) (names .1) e))
-      (λ n ls e. pd ls (found (ns .wires) (storesOf ns) n (ns .declared) (aDefine ls) (names .1) e)) (λ n x e. pp x (found (ns .wires) (storesOf ns) n (ns .declared) (aProduction x) (names .1) e))
+      of-known P t own ns i s d p (λ n a b e. pi a b (found (ns .wires) (storesOf ns) n (ns .declared) (anInput a b) (names .names) e)) (λ n a b e. let (k, l) = found (ns .wires) (storesOf ns) n (ns .declared) (aStore a b) (names .names) e in ps a b k l)
+      (λ n ls e. pd ls (found (ns .wires) (storesOf ns) n (ns .declared) (aDefine ls) (names .names) e)) (λ n x e. pp x (found (ns .wires) (storesOf ns) n (ns .declared) (aProduction x) (names .names) e))
 
   rparen : (o : Open) (e : Exp) (ls : List Level) → LevelWithin (ns .wires) (storesOf ns) (o .level) → Each (LevelWithin (ns .wires) (storesOf ns)) ls → ExpWithin (ns .wires) (storesOf ns) e → P (Reading.onRightParen ns o e ls t)
   rparen o e [] g gs h = elsewhere
@@ -258,24 +326,42 @@ module _ (ns : Names) (names : NamesWithin ns) (t : Placed) where
       (either _ _ _ (to _ ((whole-within (ns .wires) (storesOf ns) (o .level) e g h, tt, tt), gs))
       (either _ _ _ (rparen o e (o .outer) g gs h) (either _ _ _ (semicolon o e (o .outer) g h) elsewhere)))))
 
-  literally : (c : Context) (ls : List Literal) → ContextWithin (ns .wires) (storesOf ns) c → Each (Within (ns .wires) (storesOf ns)) ls → P (behindLiteral ns c ls t)
+  literally : (c : Context) (ls : List Literal) → LiteralsWithin (ns .wires) (storesOf ns) c ls 0 → P (behindLiteral ns c ls t)
   unfolding behindLiteral
-  literally (inDefine s) ls g h = either _ _ _ (to _ (tt, h)) (either _ _ _ (stands (newDefine s ls) h) elsewhere)
-  literally (inLetter o) ls g h = either _ _ _ (to _ (g, h)) (either _ _ _ (to _ (g, h, tt)) (operandly o _ false g (h, tt)))
+  literally (inDefine s) ls g = either _ _ _ (to _ g) (either _ _ _ (stands (newDefine s ls) (g .1)) elsewhere)
+  literally (inLetter o) ls (g, h, few) =
+      let x : LetterWithin (ns .wires) (storesOf ns) ls [] = record { literals = h; writes = tt; few-tests = omega arith; few-writes = omega arith } in
+      either _ _ _ (to _ (g, h, few)) (either _ _ _ (to _ (g, x)) (operandly o _ false g x))
 
-  name-of-literal : (c : Context) (ls : List Literal) (pr : Exp → Step) → ContextWithin (ns .wires) (storesOf ns) c → Each (Within (ns .wires) (storesOf ns)) ls → ((e : Exp) → ExpWithin (ns .wires) (storesOf ns) e → P (pr e))
+  name-of-literal : (c : Context) (ls : List Literal) (pr : Exp → Step) → LiteralsWithin (ns .wires) (storesOf ns) c ls 0 → ((e : Exp) → ExpWithin (ns .wires) (storesOf ns) e → P (pr e))
       → P (literalName ns c ls t pr)
   unfolding literalName
-  name-of-literal c ls pr g h p =
-      with-known _ _ _ _ (λ lo w k. to _ (g, h, k, omega arith)) (λ n w b. right _ crowded _ (λ e. to _ (g, h, b)))
-      (λ ds k. right _ crowded _ (λ e. to _ (g, each-append (Within (ns .wires) (storesOf ns)) ls ds h k))) p
+  name-of-literal c ls pr g p =
+      with-known _ _ _ _ (λ lo w k. to _ (g, k, omega arith)) (λ n w b l. right _ crowded _ (λ e. to _ ((g .0, g .1, few-if c ls 1 e), b, l)))
+      (λ ds k. right _ crowded _ (λ e. to _ (literals-append (ns .wires) (storesOf ns) c ls ds (g .0, g .1, few-if c ls (storeTests ds) e) k))) p
 
-  write : (o : Open) (ls : List Literal) (ws : List Write) → OpenWithin (ns .wires) (storesOf ns) o → Each (Within (ns .wires) (storesOf ns)) ls → Each (WriteWithin (ns .wires) (storesOf ns)) ws
-      → P (Reading.writtenStore ns o ls ws t)
-  write o ls ws g h r = with-known _ _ _ _ (λ lo w k. own _) (λ n w b. right _ crowded _ (λ e. to _ (g, h, r, b))) (λ d k. own _) (λ d k. own _)
+  write : (o : Open) (ls : List Literal) (ws : List Write) → OpenWithin (ns .wires) (storesOf ns) o → LetterWithin (ns .wires) (storesOf ns) ls ws → P (Reading.writtenStore ns o ls ws t)
+  write o ls ws g h =
+      with-known _ _ _ _ (λ lo w k. own _) (λ n w b l. right _ crowded _ (λ e. to _ (g, h, leb-false 2 (length ws) e, b, l))) (λ d k. own _) (λ d k. own _)
+
+  -- a write more
+  write-behind : (ls : List Literal) (ws : List Write) (x : Write) → LetterWithin (ns .wires) (storesOf ns) ls ws → length ws < 2 → WriteWithin (ns .wires) (storesOf ns) x
+      → LetterWithin (ns .wires) (storesOf ns) ls (ws ++ (x ∷ []))
+  write-behind ls ws x h few k =
+      record {
+        literals = h .literals;
+        writes = each-more (WriteWithin (ns .wires) (storesOf ns)) ws x (h .writes) k;
+        few-tests = h .few-tests;
+        few-writes = omega (arith, length-append ws (x ∷ []));
+      }
+
+  -- a literal more
+  literal-behind : (c : Context) (ls : List Literal) (x : Literal) → LiteralsWithin (ns .wires) (storesOf ns) c ls (storeTests (x ∷ [])) → Within (ns .wires) (storesOf ns) x
+      → LiteralsWithin (ns .wires) (storesOf ns) c (ls ++ (x ∷ [])) 0
+  literal-behind c ls x g k = literals-append (ns .wires) (storesOf ns) c ls (x ∷ []) g (k, tt)
 
   begin : (k : Token) → P (Reading.begin ns t k)
-  begin (token.name s) = new false false _ (λ e s. to _ ((tt, tt, tt), tt))
+  begin (token.name s) = new false false _ (λ e f s. to _ ((tt, tt, tt), tt))
   begin (token.word token.input) = to _ tt
   begin (token.word token.internal) = to _ tt
   begin (token.word token.define) = to _ tt
@@ -291,7 +377,7 @@ module _ (ns : Names) (names : NamesWithin ns) (t : Placed) where
   end ms (token.word w) g = elsewhere
   end ms (token.number n) g = elsewhere
   end ms (token.sign n) g = elsewhere
-  end ms token.end g = (names .0, g)
+  end ms token.end g = record { wires = names .wires; monitors = g; stores = names .stores; values = names .values }
   end ms (token.refused n) g = elsewhere
 
   broken : (p : ℕ) → P (fault oversize p)
@@ -303,44 +389,45 @@ module _ (ns : Names) (names : NamesWithin ns) (t : Placed) where
   number-fits lo w v k e = (leb-false (2 ^ w) v e, k)
 
   within-step : (x : Expect) → ExpectWithin (ns .wires) (storesOf ns) x → P (step ns x t)
-  unfolding step
+  unfolding step storeTests
   within-step statement g = begin (t .token)
   within-step (sign k x) g = here _ x g
   within-step (nought x) g = of-number P t own _ (λ n. here _ x g)
   within-step (closing d) g = either _ _ _ (stands d g) elsewhere
-  within-step inputName g = new _ _ _ (λ e s. to _ (omega (arith, leb-false 64 (ns .wires) e)))
+  within-step inputName g = new _ _ _ (λ e f s. to _ (omega (arith, leb-false 64 (ns .wires) e)))
   within-step (inputMore s) g = either _ _ _ (stands (newInput s 1) g) (here _ (inputHigh s) tt)
   within-step (inputHigh s) g = of-number P t own _ (λ h. right _ oversize _ (λ e. to _ (omega (arith, ltb-false 64 (ns .wires + suc h) (second (ltb 63 h) (ltb 64 (ns .wires + suc h)) e)))))
-  within-step storeName g = new _ _ _ (λ e s. to _ tt)
-  within-step (storeMore s) g = either _ _ _ (to _ tt) (here _ (storeHigh s) tt)
-  within-step (storeHigh s) g = of-number P t own _ (λ h. right _ oversize _ (λ e. to _ tt))
-  within-step (storeFirst s w) g = of-number P t own _ (λ h. right _ oversize _ (λ e. to _ tt))
-  within-step defineName g = new _ _ _ (λ e s. to _ (tt, tt))
+  within-step storeName g = new _ _ _ (λ e f s. to _ (leb-false 16 (storesOf ns) f))
+  within-step (storeMore s) g = either _ _ _ (to _ (g, omega arith)) (here _ (storeHigh s) g)
+  within-step (storeHigh s) g = of-number P t own _ (λ h. right _ oversize _ (λ e. to _ (g, omega (arith, ltb-false 63 h e))))
+  within-step (storeFirst s w) (g, l) = of-number P t own _ (λ v. right _ oversize _ (λ e. to _ (g, l, fits-word w v l e)))
+  within-step defineName g = new _ _ _ (λ e f s. to _ (tt, tt, tt))
   within-step (operand o) g =
       either _ _ _ (right _ crowded _ (λ e. to _ ((tt, tt, tt), (g .0, g .1))))
-      (either _ _ _ (to _ (g, tt)) (name-of-literal (inLetter o) [] _ g tt (λ e k. to _ (g, k))))
-  within-step (literal c ls) (g, h) = either _ _ _ (to _ (g, h)) (name-of-literal c ls _ g h (λ e k. own _))
-  within-step (negated c ls) (g, h) = with-known _ _ _ _ (λ lo w k. to _ (g, h, k, omega arith)) (λ n w b. own _) (λ d k. own _) (λ d k. own _)
-  within-step (wireMore c ls lo w v p) (g, h, k, b) =
-      either _ _ _ (to _ (g, h, k, b))
-      (either _ _ _ (here _ _ (g, h, k))
-      (of-choose P (eqb w 1) _ _ (λ e. literally c _ g (each-more (Within (ns .wires) (storesOf ns)) ls (wire lo 1 v) h (b, omega (arith, eqb-true w 1 e)))) (λ e. broken p)))
-  within-step (bitIndex c ls lo w v) (g, h, k, b) =
-      of-number P t own _ (λ i. right _ oversize _ (λ e. to _ (g, each-more (Within (ns .wires) (storesOf ns)) ls (wire (lo + i) 1 v) h (b, omega (arith, leb-false w i e)))))
-  within-step (wireEquals c ls lo w) (g, h, k) =
-      of-if-number P (t .token) _ _ (λ v. right _ oversize _ (λ e. to _ (g, each-more (Within (ns .wires) (storesOf ns)) ls (wire lo w v) h (number-fits lo w v k e))))
-      (with-known _ _ _ _ (λ a b e. own _) (λ n a b. right _ oversize _ (λ e. right _ crowded _ (λ f. to _ (g, each-more (Within (ns .wires) (storesOf ns)) ls (wire-store lo w n) h (k, b)))))
+      (either _ _ _ (to _ (g, tt, omega arith)) (name-of-literal (inLetter o) [] _ (g, tt, omega arith) (λ e k. to _ (g, k))))
+  within-step (literal c ls) g = either _ _ _ (to _ g) (name-of-literal c ls _ g (λ e k. own _))
+  within-step (negated c ls) g = with-known _ _ _ _ (λ lo w k. to _ (g, k, omega arith)) (λ n w b l. own _) (λ d k. own _) (λ d k. own _)
+  within-step (wireMore c ls lo w v p) (g, k, b) =
+      either _ _ _ (to _ (g, k, b))
+      (either _ _ _ (here _ _ (g, k))
+      (of-choose P (eqb w 1) _ _ (λ e. literally c _ (literal-behind c ls (wire lo 1 v) g (b, omega (arith, eqb-true w 1 e)))) (λ e. broken p)))
+  within-step (bitIndex c ls lo w v) (g, k, b) =
+      of-number P t own _ (λ i. right _ oversize _ (λ e. to _ (literal-behind c ls (wire (lo + i) 1 v) g (b, omega (arith, leb-false w i e)))))
+  within-step (wireEquals c ls lo w) (g, k) =
+      of-if-number P (t .token) _ _ (λ v. right _ oversize _ (λ e. to _ (literal-behind c ls (wire lo w v) g (number-fits lo w v k e))))
+      (with-known _ _ _ _ (λ a b e. own _)
+      (λ n a b l. right _ oversize _ (λ e. right _ crowded _ (λ f. to _ (literal-behind c ls (wire-store lo w n) (g .0, g .1, few-if c ls 1 f) (k, b)))))
       (λ d e. own _) (λ d e. own _))
-  within-step (storeEquals c ls s w) (g, h, b) = of-number P t own _ (λ v. right _ oversize _ (λ e. to _ (g, each-more (Within (ns .wires) (storesOf ns)) ls (store s v) h b)))
-  within-step (literalMore c ls) (g, h) = literally c ls g h
-  within-step (writeStore o ls ws) (g, h, r) = write o ls ws g h r
-  within-step (writeValue o ls ws s w) (g, h, r, b) =
-      of-if-number P (t .token) _ _ (λ v. right _ oversize _ (λ e. to _ (g, h, each-more (WriteWithin (ns .wires) (storesOf ns)) ws (from-number s v) r b)))
-      (with-known _ _ _ _ (λ lo v e. right _ oversize _ (λ f. to _ (g, h, each-more (WriteWithin (ns .wires) (storesOf ns)) ws (from-wire s lo v) r (b, e)))) (λ n a b. own _) (λ d e. own _) (λ d e. own _))
-  within-step (writeMore o ls ws) (g, h, r) = either _ _ _ (to _ (g, (h, r))) (write o ls ws g h r)
+  within-step (storeEquals c ls s w) (g, b, l) = of-number P t own _ (λ v. right _ oversize _ (λ e. to _ (literal-behind c ls (store s v) g (b, fits-word w v l e))))
+  within-step (literalMore c ls) g = literally c ls g
+  within-step (writeStore o ls ws) (g, h) = write o ls ws g h
+  within-step (writeValue o ls ws s w) (g, h, few, b, l) =
+      of-if-number P (t .token) _ _ (λ v. right _ oversize _ (λ e. to _ (g, write-behind ls ws (from-number s v) h few (b, fits-word w v l e))))
+      (with-known _ _ _ _ (λ lo v e. right _ oversize _ (λ f. to _ (g, write-behind ls ws (from-wire s lo v) h few (b, e)))) (λ n a b l. own _) (λ d e. own _) (λ d e. own _))
+  within-step (writeMore o ls ws) (g, h) = either _ _ _ (to _ (g, h)) (write o ls ws g h)
   within-step (operandMore o e b) (g, h) = operandly o e b g h
   within-step (monitorName ms) g =
-      with-known _ _ _ _ (λ a b e. own _) (λ n a b. own _) (λ d e. own _) (λ e k. right _ crowded _ (λ f. to _ (each-more (ExpWithin (ns .wires) (storesOf ns)) ms e g k)))
+      with-known _ _ _ _ (λ a b e. own _) (λ n a b l. own _) (λ d e. own _) (λ e k. right _ crowded _ (λ f. to _ (each-more (ExpWithin (ns .wires) (storesOf ns)) ms e g k)))
   within-step (monitorMore ms) g = either _ _ _ (to _ g) (here _ (textEnd ms) g)
   within-step (textEnd ms) g = end ms (t .token) g
 
@@ -366,4 +453,4 @@ read-within text p e = go-on (ltb 16384 (length text)) e
   where
     go-on : (t : Bool) → cond t (refused overlong (byte 0)) (readOn noNames statement (tokens text)) ≡ value p → ProgramWithin p
     go-on true f = clash (cc)
-    go-on false f = reads-within (tokens text) noNames statement p (omega arith, tt) tt f
+    go-on false f = reads-within (tokens text) noNames statement p (record { wires = omega arith; names = tt; stores = omega arith; values = tt }) tt f

@@ -71,6 +71,11 @@ renumbered k (alt e f) = alt (renumbered k e) (renumbered (k + size e) f)
 renumbered k (star e) = star (renumbered k e)
 renumbered k (pipe e f) = pipe (renumbered k e) (renumbered (k + size e) f)
 
+-- the monitors with their letters numbered over all of them, from k
+unfoldable pub numberedFrom : ℕ → List Exp → List Exp
+numberedFrom k [] = []
+numberedFrom k (m ∷ ms) = renumbered k m ∷ numberedFrom (k + size m) ms
+
 -- its letters are numbered from k
 abbrev pub Ordered : ℕ → Exp → Type 0
 Ordered k (letter l) = l .number ≡ k

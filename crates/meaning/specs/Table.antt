@@ -24,22 +24,22 @@ pub record Row : Type 0 where
 abbrev pub Table : Type 0
 Table = ℕ → Row
 
--- row c is an operand of row r; top is the monitor's own row
-abbrev pub Under : Table → (top r c : ℕ) → Type 0
-Under R top r c = (R c .up ≡ r) × (c ≡ top → ⊥)
+-- row c is an operand of row r; a monitor's own row points up at itself
+abbrev pub Under : Table → (r c : ℕ) → Type 0
+Under R r c = (R c .up ≡ r) × (c ≡ r → ⊥)
 
 -- row r and the rows below it hold e; place tells each letter's row
-abbrev pub Holds : Table → (top : ℕ) → (place : ℕ → ℕ) → ℕ → Exp → Type 0
-Holds R top place r (letter l) = (R r .kind ≡ is-letter l) × (place (l .number) ≡ r)
-Holds R top place r (seq e f) =
-    (R r .kind ≡ is-seq) × Under R top r (R r .left) × Under R top r (R r .right) × (R r .right ≡ R r .left → ⊥)
-    × Holds R top place (R r .left) e × Holds R top place (R r .right) f
-Holds R top place r (alt e f) =
-    (R r .kind ≡ is-alt) × Under R top r (R r .left) × Under R top r (R r .right) × Holds R top place (R r .left) e × Holds R top place (R r .right) f
-Holds R top place r (star e) = (R r .kind ≡ is-star) × Under R top r (R r .left) × Holds R top place (R r .left) e
-Holds R top place r (pipe e f) =
-    (R r .kind ≡ is-pipe) × Under R top r (R r .left) × Under R top r (R r .right) × (R r .right ≡ R r .left → ⊥)
-    × Holds R top place (R r .left) e × Holds R top place (R r .right) f
+abbrev pub Holds : Table → (place : ℕ → ℕ) → ℕ → Exp → Type 0
+Holds R place r (letter l) = (R r .kind ≡ is-letter l) × (place (l .number) ≡ r)
+Holds R place r (seq e f) =
+    (R r .kind ≡ is-seq) × Under R r (R r .left) × Under R r (R r .right) × (R r .right ≡ R r .left → ⊥)
+    × Holds R place (R r .left) e × Holds R place (R r .right) f
+Holds R place r (alt e f) =
+    (R r .kind ≡ is-alt) × Under R r (R r .left) × Under R r (R r .right) × Holds R place (R r .left) e × Holds R place (R r .right) f
+Holds R place r (star e) = (R r .kind ≡ is-star) × Under R r (R r .left) × Holds R place (R r .left) e
+Holds R place r (pipe e f) =
+    (R r .kind ≡ is-pipe) × Under R r (R r .left) × Under R r (R r .right) × (R r .right ≡ R r .left → ⊥)
+    × Holds R place (R r .left) e × Holds R place (R r .right) f
 
 -- ---- the rows of a program ----
 
@@ -62,7 +62,7 @@ letterRows r (alt e f) = letterRows (suc r) e ++ letterRows (suc r + rows e) f
 letterRows r (star e) = letterRows (suc r) e
 letterRows r (pipe e f) = letterRows (suc r) e ++ letterRows (suc r + rows e) f
 
--- the monitors' rows, one monitor's behind the other's; a monitor is nobody's operand and points at itself
+-- the monitors' rows, one monitor's behind the other's; a monitor is nobody's operand
 unfoldable pub laidAll : ℕ → List Exp → List Row
 laidAll r [] = []
 laidAll r (m ∷ ms) = laid r r m ++ laidAll (r + rows m) ms
@@ -82,7 +82,7 @@ letterRow r m k = getD (letterRows r m) k 0
 -- the table holds the monitors from row r on
 abbrev pub HoldsAll : Table → ℕ → List Exp → Type 0
 HoldsAll R r [] = Unit {0}
-HoldsAll R r (m ∷ ms) = Holds R r (letterRow r m) r m × HoldsAll R (r + rows m) ms
+HoldsAll R r (m ∷ ms) = Holds R (letterRow r m) r m × (R r .up ≡ r) × HoldsAll R (r + rows m) ms
 
 -- ---- the walk ----
 
@@ -102,14 +102,14 @@ leaveBy is-alt on-left b c d = c
 leaveBy is-star on-left b c d = d
 leaveBy is-pipe on-left b c d = cond on-left (joined c b) (some [])
 
--- n bounds the calls; top is the monitor's own row, which is asked again when it is left
+-- n bounds the calls; a monitor's own row is asked again when it is left
 unfoldable mutual
-  pub askRow : ℕ → Table → ℕ → ℕ → Way
-  askRow zero R top r t = none
-  askRow (suc n) R top r t = askBy (R r .kind) t (askRow n R top (R r .left) t) (askRow n R top (R r .right) t) (leaveRow n R top r t)
+  pub askRow : ℕ → Table → ℕ → Way
+  askRow zero R r t = none
+  askRow (suc n) R r t = askBy (R r .kind) t (askRow n R (R r .left) t) (askRow n R (R r .right) t) (leaveRow n R r t)
 
-  pub leaveRow : ℕ → Table → ℕ → ℕ → Way
-  leaveRow zero R top r t = none
-  leaveRow (suc n) R top r t =
-      cond (eqb r top) (askRow n R top top t)
-      (leaveBy (R (R r .up) .kind) (eqb r (R (R r .up) .left)) (askRow n R top (R (R r .up) .right) t) (leaveRow n R top (R r .up) t) (askRow n R top (R r .up) t))
+  pub leaveRow : ℕ → Table → ℕ → Way
+  leaveRow zero R r t = none
+  leaveRow (suc n) R r t =
+      cond (eqb (R r .up) r) (askRow n R r t)
+      (leaveBy (R (R r .up) .kind) (eqb r (R (R r .up) .left)) (askRow n R (R (R r .up) .right) t) (leaveRow n R (R r .up) t) (askRow n R (R r .up) t))

@@ -15,6 +15,7 @@ use Rattle.meaning.specs.Expression.{Literal, wire, wire-store, store, Exp}
 use Rattle.meaning.specs.Shape.{agree}
 use Rattle.meaning.specs.Answers.{refused, byte, crowded}
 use Rattle.meaning.specs.Reading.{Names, Meaning, anInput, aStore, aDefine, aProduction, Context, inDefine, inLetter, sign, bitIndex, storeEquals, wireEquals, wireMore, negated, literal, literalName, behindLiteral, ifNumber, literalMore, storeTests, tooMany, withLiteral, Step, step, go, fault, known, byKind, choose, unless, atToken, noPair, noLiterals, noExp}
+use Rattle.meaning.proofs.Within.{count-append}
 use Rattle.rules.specs.declared.literals.Condition.{Condition}
 use Rattle.rules.specs.declared.literals.Literals.{Literals}
 use Rattle.rules.specs.declared.tokens.Seen.{Seen}
@@ -28,7 +29,7 @@ use Rattle.rules.proofs.Stepping.{well, ill, wrong, right, yes, no, fau
 use Rattle.rules.proofs.OnNumber.{Numeric, number-past, number-most, number-refused, number-on}
 use Rattle.rules.proofs.Put.{extends-refl, extends-then}
 use Rattle.rules.proofs.Kept.{cells-kept}
-use Rattle.rules.proofs.Tested.{count-append, wire-added, retested, store-test, wire-test, test-added, define-added}
+use Rattle.rules.proofs.Tested.{wire-added, retested, store-test, wire-test, test-added, define-added}
 use Rattle.rules.proofs.Picking.{missing, present, known-name, cell-kind}
 
 abbrev pub answered : (f pos free : ℕ) → Condition → Literals

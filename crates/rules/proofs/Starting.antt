@@ -1,16 +1,20 @@
 -- A text's watch: its marks, and its tables by the opened program. Assumes nothing.
 use mathlib.Core.Path.{_≡_, refl, sym, _∙_, ap, ap₂}
-use mathlib.Core.List.{List, [], _∷_, _++_, map, map-append}
-use Prim.Native.Nat.{ℕ, zero, suc, _+_, _<_}
+use mathlib.Core.Bool.{Bool, true, false, cond}
+use mathlib.Core.List.{List, [], _∷_, _++_, map, map-append, append-nil}
+use Prim.Native.Nat.{ℕ, zero, suc, _+_, _<_, _≤_}
 use native.Mathlib.Omega.{arith}
-use lib.ListN.{length, getD, take, replicate, length-replicate, set}
-use lib.Seq.{sets, length-take-le, take-suc}
+use lib.Dec.{eqb, eqb→eq}
+use lib.ListN.{length, length-append, getD, take, replicate, length-replicate, set, length-set}
+use lib.Seq.{sets, set-out, length-take-le, take-suc}
 use Rattle.meaning.specs.Masks.{look, want}
 use Rattle.meaning.specs.Lists.{each}
 use Rattle.meaning.specs.Expression.{Letter, Exp, letter, seq, alt, star, pipe, letters, size, rows, renumbered}
 use Rattle.meaning.proofs.Numbering.{renumbered-size, renumbered-rows}
-use Rattle.rules.specs.Laying.{rowCode, rowCodes, slotsOf, slotWord, slotNumber}
+use Rattle.rules.specs.Laying.{RowLists, rowCode, rowCodes, slotsOf, slotWord, slotNumber}
 use Rattle.rules.specs.Monitors.{codesAll, startsBy, Lists, withMonitors}
+use Rattle.meaning.proofs.ListLaws.{is-false}
+use Rattle.rules.specs.Watches.{rowWord, rowWords, lettersFrom}
 use Rattle.rules.proofs.Overlay.{sets-behind}
 
 -- ---- marks
@@ -23,6 +27,108 @@ pub marks-more : (L : List ℕ) (i : ℕ) → set (sets L 256 (replicate i 1)) (
 marks-more L i =
     sets-behind L 256 (256 + i) (replicate i 1) (1 ∷ []) (replicate (i + 1) 1) (ap (λ (n : ℕ). 256 + n) (sym (length-replicate i 1)))
     (let e : i + 1 ≡ suc i = omega arith in ap (λ (n : ℕ). replicate n 1) e ∙ replicate-more i 1)
+
+-- ---- rows in one word each
+
+rows-long : (n : ℕ) (A : RowLists) → length (rowWords n A) ≡ n
+unfolding rowWords
+rows-long zero A = refl
+rows-long (suc n) A = let l = length-append (rowWords n A) (rowWord A n ∷ []) in omega (arith, l, rows-long n A)
+
+pub no-rows : (A : RowLists) → replicate 1024 0 ≡ sets (replicate 1024 0) 0 (rowWords 0 A)
+unfolding rowWords
+no-rows A = refl
+
+pub rows-more : (A : RowLists) (T : List ℕ) (i w : ℕ) → length T ≡ 1024 → T ≡ sets (replicate 1024 0) 0 (rowWords i A) → w ≡ rowWord A i
+    → (length (set T i w) ≡ 1024) × (set T i w ≡ sets (replicate 1024 0) 0 (rowWords (i + 1) A))
+unfolding rowWords
+rows-more A T i w h e q = (
+  length-set T i w ∙ h,
+  ap₂ (λ (s : List ℕ) (x : ℕ). set s i x) e q
+      ∙ sets-behind (replicate 1024 0) 0 i (rowWords i A) (rowWord A i ∷ []) (rowWords (i + 1) A) (let l = rows-long i A in omega (arith, l))
+      (let k : i + 1 ≡ suc i = omega arith in ap (λ (n : ℕ). rowWords n A) k),
+)
+
+pub rows-end : (A : RowLists) (T : List ℕ) (i n : ℕ) → T ≡ sets (replicate 1024 0) 0 (rowWords i A) → i ≡ n → T ≡ sets (replicate 1024 0) 0 (rowWords n A)
+rows-end A T i n e q = e ∙ ap (λ (m : ℕ). sets (replicate 1024 0) 0 (rowWords m A)) q
+
+-- ---- the rows of letters
+
+-- with one kind more
+letters-next : (r : ℕ) (ks : List ℕ) (k : ℕ) → lettersFrom r (ks ++ (k ∷ [])) ≡ lettersFrom r ks ++ cond (eqb k 0) ((r + length ks) ∷ []) []
+unfolding lettersFrom
+letters-next r [] k = by (eqb k 0)
+  where
+    by : (b : Bool) → cond b (r ∷ []) [] ≡ cond b ((r + 0) ∷ []) []
+    by true = let e : r + 0 ≡ r = omega arith in rw e refl
+    by false = refl
+letters-next r (x ∷ ks) k =
+    let e : suc r + length ks ≡ r + suc (length ks) = omega arith in
+    let h = letters-next (suc r) ks k ∙ ap (λ (n : ℕ). lettersFrom (suc r) ks ++ cond (eqb k 0) (n ∷ []) []) e in
+    by (eqb x 0) h
+  where
+    by : (b : Bool) → lettersFrom (suc r) (ks ++ (k ∷ [])) ≡ lettersFrom (suc r) ks ++ cond (eqb k 0) ((r + suc (length ks)) ∷ []) []
+        → cond b (r ∷ lettersFrom (suc r) (ks ++ (k ∷ []))) (lettersFrom (suc r) (ks ++ (k ∷ []))) ≡ cond b (r ∷ lettersFrom (suc r) ks) (lettersFrom (suc r) ks) ++ cond (eqb k 0) ((r + suc (length ks)) ∷ []) []
+    by true h = ap (λ (s : List ℕ). r ∷ s) h
+    by false h = h
+
+-- what the loop over rows has stored and counted, of the first i
+pub record Placed (K P : List ℕ) (i n : ℕ) : Type 0 where
+  pub count : n ≡ length (lettersFrom 0 (take i K))
+  pub places : P ≡ sets (replicate 256 0) 0 (lettersFrom 0 (take i K))
+
+pub none-placed : (K : List ℕ) → Placed K (replicate 256 0) 0 0
+unfolding lettersFrom
+none-placed K = record { count = refl; places = refl }
+
+pub one-placed : (K P Q : List ℕ) (i n m : ℕ) → i < length K → Placed K P i n → m ≡ cond (eqb (getD K i 0) 0) (n + 1) n
+    → Q ≡ cond (eqb (getD K i 0) 0) (set P n i) P → Placed K Q (i + 1) m
+one-placed K P Q i n m h a p q =
+    by (eqb (getD K i 0) 0) p q
+    (let e : i + 1 ≡ suc i = omega arith in
+    ap (λ (j : ℕ). lettersFrom 0 (take j K)) e ∙ ap (lettersFrom 0) (take-suc K i 0 h) ∙ letters-next 0 (take i K) (getD K i 0)
+    ∙ ap (λ (j : ℕ). lettersFrom 0 (take i K) ++ cond (eqb (getD K i 0) 0) (j ∷ []) []) (let l = length-take-le i K (omega arith) in omega (arith, l)))
+  where
+    by : (b : Bool) → m ≡ cond b (n + 1) n → Q ≡ cond b (set P n i) P → lettersFrom 0 (take (i + 1) K) ≡ lettersFrom 0 (take i K) ++ cond b (i ∷ []) [] → Placed K Q (i + 1) m
+    by true u v w =
+        let l = length-append (lettersFrom 0 (take i K)) (i ∷ []) in
+        record {
+          count = u ∙ ap (λ (j : ℕ). j + 1) (a .count) ∙ sym (ap length w ∙ l);
+          places = v ∙ ap₂ (λ (s : List ℕ) (j : ℕ). set s j i) (a .places) (a .count)
+              ∙ sets-behind (replicate 256 0) 0 (length (lettersFrom 0 (take i K))) (lettersFrom 0 (take i K)) (i ∷ []) (lettersFrom 0 (take (i + 1) K)) (omega arith) w;
+        }
+    by false u v w =
+        let e = w ∙ append-nil (lettersFrom 0 (take i K)) in
+        record { count = u ∙ a .count ∙ ap length (sym e); places = v ∙ a .places ∙ ap (sets (replicate 256 0) 0) (sym e) }
+
+-- the loop goes on
+pub placed-next : (K P Q : List ℕ) (i n m rows : ℕ) → i < rows → n ≤ i → length P ≡ 256 → Placed K P i n → i < length K → m ≡ cond (eqb (getD K i 0) 0) (n + 1) n
+    → Q ≡ cond (eqb (getD K i 0) 0) (set P n i) P → (i + 1 ≤ rows) × (m ≤ i + 1) × (length Q ≡ 256) × Placed K Q (i + 1) m
+placed-next K P Q i n m rows r l s a h p q = (omega arith, few (eqb (getD K i 0) 0) p, long (eqb (getD K i 0) 0) q, one-placed K P Q i n m h a p q)
+  where
+    few : (b : Bool) → m ≡ cond b (n + 1) n → m ≤ i + 1
+    few true u = omega (arith, u)
+    few false u = omega (arith, u)
+
+    long : (b : Bool) → Q ≡ cond b (set P n i) P → length Q ≡ 256
+    long true v = ap length v ∙ length-set P n i ∙ s
+    long false v = ap length v ∙ s
+
+pub same-places : (K P : List ℕ) (i j n : ℕ) → Placed K P i n → i ≡ j → P ≡ sets (replicate 256 0) 0 (lettersFrom 0 (take j K))
+same-places K P i j n a e = a .places ∙ ap (λ (m : ℕ). sets (replicate 256 0) 0 (lettersFrom 0 (take m K))) e
+
+-- what one row of kind k adds to n letters with the places P
+abbrev Adds : (k n row : ℕ) (P : List ℕ) (m : ℕ) (Q : List ℕ) → Type 0
+Adds k n row P m Q = (m ≡ cond (eqb k 0) (n + 1) n) × (Q ≡ cond (eqb k 0) (set P n row) P)
+
+pub not-placed : (k : ℕ) → (k ≡ 0 → ⊥) → (n row : ℕ) (P : List ℕ) → Adds k n row P n P
+not-placed k z n row P = rw (is-false (eqb k 0) (λ t. z (eqb→eq k 0 t))) (refl, refl)
+
+pub has-place : (k : ℕ) → k ≡ 0 → (n row : ℕ) (P : List ℕ) → Adds k n row P (n + 1) (set P n row)
+has-place k z n row P = rw z (refl, refl)
+
+pub out-of-room : (k : ℕ) → k ≡ 0 → (n row : ℕ) (P : List ℕ) → length P ≤ n → Adds k n row P (n + 1) P
+out-of-room k z n row P h = rw z (refl, sym (set-out P n row h))
 
 -- ---- numbers of letters play no part in the tables
 

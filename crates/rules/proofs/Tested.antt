@@ -13,6 +13,7 @@ use Rattle.meaning.specs.Shape.{agree, AllSized, Sized}
 use Rattle.meaning.specs.Masks.{look, want, compatible, passes}
 use Rattle.meaning.specs.Reading.{storeTests}
 use Rattle.meaning.proofs.ListLaws.{cons-∈, no-∈}
+use Rattle.meaning.proofs.Within.{count-append}
 use Rattle.meaning.proofs.Masks.{look-append, want-append, sized-append, agree-append, agree-one}
 use Rattle.rules.specs.declared.literals.Condition.{Condition}
 use Rattle.rules.specs.Words.{part0, part1, part2}
@@ -30,13 +31,6 @@ tests-append xs (wire lo w v ∷ ls) ms = tests-append xs ls ms
 tests-append xs (wire-store lo w s ∷ ls) ms = tests-append _ ls ms
 tests-append xs (store s v ∷ ls) ms = tests-append _ ls ms
 
-pub count-append : (ls ms : List Literal) → storeTests (ls ++ ms) ≡ storeTests ls + storeTests ms
-unfolding storeTests
-count-append [] ms = omega arith
-count-append (wire lo w v ∷ ls) ms = count-append ls ms
-count-append (wire-store lo w s ∷ ls) ms = omega (arith, count-append ls ms)
-count-append (store s v ∷ ls) ms = omega (arith, count-append ls ms)
-
 tests-onto : (xs : List Link) (ls : List Literal) → testsOn xs ls ≡ testsOn [] ls ++ xs
 unfolding testsOn
 tests-onto xs [] = refl
@@ -44,7 +38,7 @@ tests-onto xs (wire lo w v ∷ ls) = tests-onto xs ls
 tests-onto xs (wire-store lo w s ∷ ls) = tests-onto (link s lo w 0 ∷ xs) ls ∙ sym (ap (λ z. z ++ xs) (tests-onto (link s lo w 0 ∷ []) ls) ∙ append-assoc (testsOn [] ls) (link s lo w 0 ∷ []) xs)
 tests-onto xs (store s v ∷ ls) = tests-onto (link s 0 0 v ∷ xs) ls ∙ sym (ap (λ z. z ++ xs) (tests-onto (link s 0 0 v ∷ []) ls) ∙ append-assoc (testsOn [] ls) (link s 0 0 v ∷ []) xs)
 
-tests-length : (xs : List Link) (ls : List Literal) → length (testsOn xs ls) ≡ storeTests ls + length xs
+pub tests-length : (xs : List Link) (ls : List Literal) → length (testsOn xs ls) ≡ storeTests ls + length xs
 unfolding testsOn storeTests
 tests-length xs [] = omega arith
 tests-length xs (wire lo w v ∷ ls) = tests-length xs ls

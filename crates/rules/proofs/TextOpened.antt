@@ -3,6 +3,7 @@ use mathlib.Core.Path.{_≡_, sym, _∙_, ap, ap₂}
 use mathlib.Core.Bool.{Bool, false, cond}
 use mathlib.Core.List.{List, [], map}
 use Prim.Native.Nat.{ℕ, _<_, _≤_}
+use native.Mathlib.Omega.{arith}
 use borrow.Author.Tests.{le-ltb, lt-ltb}
 use lib.ListN.{length, length-map, take, replicate, length-replicate}
 use lib.Seq.{sets}
@@ -11,6 +12,7 @@ use Rattle.meaning.specs.Answers as meaning
 use Rattle.meaning.specs.Expression.{Exp, rows, renumbered}
 use Rattle.meaning.specs.Reading.{noNames, statement, readOn, read}
 use Rattle.meaning.specs.Opening.{Opened, asOpened, openProgram, andOpen, openText}
+use Rattle.meaning.proofs.Openings.{rows-fit}
 use Rattle.rules.specs.declared.Watch.{Watch}
 use Rattle.rules.specs.declared.Outcome.{Outcome}
 use Rattle.rules.specs.declared.Outcome.the-variants.{Open, AtByte, AtLetter}
@@ -18,7 +20,7 @@ use Rattle.rules.specs.declared.opening.Opening.{Opening}
 use Rattle.rules.specs.Reads.{Unless}
 use Rattle.rules.specs.Monitors.{MonitorsAre, SomeMonitors, Arrays, Lists, withMonitors, AllStored, OpenedBy, byRules}
 use Rattle.rules.specs.Statements.{Says, TextRead}
-use Rattle.rules.specs.Watches.{noLists, watchBy, watchOf, outcomeOf}
+use Rattle.rules.specs.Watches.{noLists, rowWords, lettersFrom, watchBy, watchOf, outcomeOf}
 use Rattle.rules.proofs.Stepping.{well, ill}
 use Rattle.rules.proofs.AllMonitors.{program-opened}
 use Rattle.rules.proofs.Starting.{tables-renumbered}
@@ -37,17 +39,15 @@ unfolding openText read outcomeOf watchOf
 right-long text l o w p q = by-answer text (meaning.refused 1 (meaning.byte 0)) (ap (λ (b : Bool). andOpen (cond b (meaning.refused 1 (meaning.byte 0)) (readOn noNames statement (tokens text)))) (lt-ltb 16384 (length text) l)) o w p q
 
 -- a watch by its parts
-raw : Lists → (rows letters monitors wires stores : ℕ) → (kept marks : List ℕ) → Watch
-raw A r l n w s k m =
+raw : Lists → (rows letters monitors wires stores : ℕ) → (kept marks places table : List ℕ) → Watch
+raw A r l n w s k m p t =
     record {
-      kind = A .rows-of .kind;
-      left = A .rows-of .left;
-      right = A .rows-of .right;
-      up = A .rows-of .up;
+      table = t;
       look = A .letters-of .look;
       want = A .letters-of .want;
       links = A .letters-of .links;
       numbers = A .letters-of .numbers;
+      places = p;
       own = A .own;
       firsts = A .firsts;
       rows = r;
@@ -61,10 +61,12 @@ raw A r l n w s k m =
       stopped = false;
     }
 
-same-watch : (A B : Lists) (r r′ l l′ n n′ w w′ s : ℕ) (k m vs : List ℕ) → A ≡ B → r ≡ r′ → l ≡ l′ → n ≡ n′ → w ≡ w′ → s ≡ length vs
-    → k ≡ sets (replicate 16 0) 0 vs → m ≡ sets (replicate 288 0) 256 (replicate n′ 1) → raw A r l n w s k m ≡ watchBy B r′ l′ n′ w′ vs
+same-watch : (A B : Lists) (r r′ l l′ n n′ w w′ s : ℕ) (k m p t vs : List ℕ) → A ≡ B → r ≡ r′ → l ≡ l′ → n ≡ n′ → w ≡ w′ → s ≡ length vs
+    → k ≡ sets (replicate 16 0) 0 vs → m ≡ sets (replicate 288 0) 256 (replicate n′ 1)
+    → p ≡ sets (replicate 256 0) 0 (lettersFrom 0 (take r (A .rows-of .kind))) → t ≡ sets (replicate 1024 0) 0 (rowWords r (A .rows-of))
+    → raw A r l n w s k m p t ≡ watchBy B r′ l′ n′ w′ vs
 unfolding raw
-same-watch A B r r′ l l′ n n′ w w′ s k m vs a b c d e f g h = rw (a, b, c, d, e, f, g, h)
+same-watch A B r r′ l l′ n n′ w w′ s k m p t vs a b c d e f g h i j = rw (i, j, a, b, c, d, e, f, g, h)
 
 module _ (text : List ℕ) (short : length text ≤ 16384) (f pos free wires stores count : ℕ) (Q S M : List ℕ) (t : TextRead text f pos free wires stores count Q S M) where
   opens : openText text ≡ andOpen (readOn noNames statement (tokens text))
@@ -99,16 +101,21 @@ module _ (text : List ℕ) (short : length text ≤ 16384) (f pos free wires sto
       right-letter n o w p q =
           by-answer text (meaning.refused (r .fault) (meaning.letterOf (r .monitor) (r .letter))) (opens ∙ ap andOpen (says .reads) ∙ ill opened n) o w p q
 
-      pub right-open : r .fault ≡ 0 → (kept marks : List ℕ) → kept ≡ sets (replicate 16 0) 0 (take stores S) → marks ≡ sets (replicate 288 0) 256 (replicate count 1)
+      pub rows-room : r .fault ≡ 0 → r .rows ≤ 1024
+      unfolding asOpened
+      rows-room y =
+          let (e, s) = well opened y in
+          omega (arith, s .row-count, rows-fit text (asOpened (says .program)) (opens ∙ ap andOpen (says .reads) ∙ e))
+
+      pub right-open : r .fault ≡ 0 → (kept marks places table : List ℕ) → kept ≡ sets (replicate 16 0) 0 (take stores S) → marks ≡ sets (replicate 288 0) 256 (replicate count 1)
+          → places ≡ sets (replicate 256 0) 0 (lettersFrom 0 (take (r .rows) (A .rows-of .kind))) → table ≡ sets (replicate 1024 0) 0 (rowWords (r .rows) (A .rows-of))
           → Right text (Open (r .rows) (r .letters)) (record {
-            kind = A .rows-of .kind;
-            left = A .rows-of .left;
-            right = A .rows-of .right;
-            up = A .rows-of .up;
+            table = table;
             look = A .letters-of .look;
             want = A .letters-of .want;
             links = A .letters-of .links;
             numbers = A .letters-of .numbers;
+            places = places;
             own = A .own;
             firsts = A .firsts;
             rows = r .rows;
@@ -122,12 +129,12 @@ module _ (text : List ℕ) (short : length text ≤ 16384) (f pos free wires sto
             stopped = false;
           })
       unfolding outcomeOf watchOf asOpened raw
-      right-open y kept marks k m =
+      right-open y kept marks places table k m x z =
           let (e, s) = well opened y in
           let p = says .program in
           let n : count ≡ length (map (renumbered 0) (p .monitors)) = says .monitors .number ∙ sym (length-map (p .monitors) (renumbered 0)) in
           by-answer text (meaning.value (asOpened p)) (opens ∙ ap andOpen (says .reads) ∙ e) _ _
           (ap₂ Open (s .row-count) (s .letter-count))
-          (same-watch A (withMonitors noLists 0 0 0 (map (renumbered 0) (p .monitors))) (r .rows) _ (r .letters) _ count _ wires _ stores kept marks (p .initial)
+          (same-watch A (withMonitors noLists 0 0 0 (map (renumbered 0) (p .monitors))) (r .rows) _ (r .letters) _ count _ wires _ stores kept marks places table (p .initial)
           (s .tables ∙ sym (tables-renumbered noLists 0 0 0 (p .monitors))) (s .row-count) (s .letter-count) n (says .width) (says .number)
-          (k ∙ ap (sets (replicate 16 0) 0) (says .values)) (m ∙ ap (λ (q : ℕ). sets (replicate 288 0) 256 (replicate q 1)) n))
+          (k ∙ ap (sets (replicate 16 0) 0) (says .values)) (m ∙ ap (λ (q : ℕ). sets (replicate 288 0) 256 (replicate q 1)) n) x z)

@@ -14,26 +14,29 @@ mod writes;
 
 use opening::open_monitors;
 use statements::read;
+use words::quad;
 ghost use mathlib.Core.Path.{_≡_};
-ghost use lib.ListN.{length, take, replicate};
+ghost use mathlib.Core.Bool.{cond};
+ghost use lib.Dec.{eqb};
+ghost use lib.ListN.{length, take, replicate, set};
 ghost use lib.Seq.{sets};
-ghost use Prim.Native.Nat.{_+_, _*_, _≤_};
+ghost use Prim.Native.Nat.{_+_, _*_, _<_, _≤_};
 ghost use Rattle.meaning.specs.Opening.{openText};
 ghost use mathlib.Core.List.{[]};
-ghost use Rattle.rules.specs.Watches.{noLists, watchBy, watchOf, outcomeOf};
+ghost use Rattle.rules.specs.Words.{quad};
+ghost use Rattle.rules.specs.Laying.{rowLists};
+ghost use Rattle.rules.specs.Watches.{noLists, rowWords, lettersFrom, watchBy, watchOf, outcomeOf};
 
-// A watch. Rows and letters as `lay` has them (specs/Laying.antt); each monitor's own row and first letter; how many
-// rows, letters, monitors, wires and stores there are; the store values; a mark for each active letter and, from 256 on,
-// for each monitor at its start; how many ticks were ok, and whether one was bad.
+// A watch. Each row in one word (specs/Watches.antt); letters as `lay` has them (specs/Laying.antt); each letter's row; each
+// monitor's own row and first letter; how many rows, letters, monitors, wires and stores there are; the store values; a mark
+// for each active letter and, from 256 on, for each monitor at its start; how many ticks were ok, and whether one was bad.
 pub struct Watch {
-    pub kind: [u8; 1024],
-    pub left: [u16; 1024],
-    pub right: [u16; 1024],
-    pub up: [u16; 1024],
+    pub table: [u64; 1024],
     pub look: [u64; 256],
     pub want: [u64; 256],
     pub links: [u64; 1024],
     pub numbers: [u64; 1024],
+    pub places: [u16; 256],
     pub own: [u16; 32],
     pub firsts: [u16; 32],
     pub rows: usize,
@@ -64,14 +67,12 @@ fn no_watch() -> Watch
     ensures { λ r. ⌜ r ≡ watchBy noLists 0 0 0 0 [] ⌝ }
 {
     Watch {
-        kind: [0; 1024],
-        left: [0; 1024],
-        right: [0; 1024],
-        up: [0; 1024],
+        table: [0; 1024],
         look: [0; 256],
         want: [0; 256],
         links: [0; 1024],
         numbers: [0; 1024],
+        places: [0; 256],
         own: [0; 32],
         firsts: [0; 32],
         rows: 0,
@@ -84,6 +85,63 @@ fn no_watch() -> Watch
         ticks: 0,
         stopped: false,
     }
+}
+
+// A row in one word.
+fn row_word(k: u8, l: u16, r: u16, u: u16) -> u64
+    ensures { λ x. ⌜ x ≡ quad k l r u ⌝ }
+{
+    quad(k as usize, l as usize, r as usize, u as usize)
+}
+
+// The first rows, each in one word: its kind, its left operand or its letter, its right operand, the row above it.
+fn row_words(
+    kind: &[u8; 1024],
+    left: &[u16; 1024],
+    right: &[u16; 1024],
+    up: &[u16; 1024],
+    rows: usize,
+) -> [u64; 1024]
+    requires { ⌜ (rows ≤ 1024) × (length (now kind) ≡ 1024) × (length (now left) ≡ 1024) × (length (now right) ≡ 1024) × (length (now up) ≡ 1024) ⌝ }
+    ensures { λ r. ⌜ r ≡ sets (replicate 1024 0) 0 (rowWords rows (rowLists (now (kind .entry)) (now (left .entry)) (now (right .entry)) (now (up .entry)))) ⌝ }
+{
+    let mut table = [0u64; 1024];
+    let mut row: usize = 0;
+    while row < rows {
+        table[row] = row_word(kind[row], left[row], right[row], up[row]);
+        row += 1;
+    }
+    table
+}
+
+// Stores a row that has the kind 0 as the place of the next letter; says how many letters there are then.
+fn place_letter(k: u8, row: usize, count: usize, places: &mut [u16; 256]) -> usize
+    requires { ⌜ (row < 1024) × (count ≤ row) × (length (now places) ≡ 256) ⌝ }
+    ensures { λ r. ⌜ (r ≡ cond (eqb k 0) (count + 1) count) × (now (places .exit) ≡ cond (eqb k 0) (set (now (places .entry)) count row) (now (places .entry))) ⌝ }
+{
+    if k != 0 {
+        return count;
+    }
+    if 256 <= count {
+        return count + 1;
+    }
+    places[count] = row as u16;
+    count + 1
+}
+
+// The row of each letter: of the first rows, those of kind 0 in order.
+fn letter_rows(kind: &[u8; 1024], rows: usize) -> [u16; 256]
+    requires { ⌜ (rows ≤ 1024) × (length (now kind) ≡ 1024) ⌝ }
+    ensures { λ r. ⌜ r ≡ sets (replicate 256 0) 0 (lettersFrom 0 (take rows (now (kind .entry)))) ⌝ }
+{
+    let mut places = [0u16; 256];
+    let mut count: usize = 0;
+    let mut row: usize = 0;
+    while row < rows {
+        count = place_letter(kind[row], row, count, &mut places);
+        row += 1;
+    }
+    places
 }
 
 // The marks of so many monitors at their start.
@@ -163,15 +221,15 @@ fn open_in(text: &[u8], words: &mut [u64]) -> Start
     }
     let kept = first_values(&values, r.stores);
     let marks = start_marks(r.count);
+    let places = letter_rows(&kind, o.rows);
+    let table = row_words(&kind, &left, &right, &up, o.rows);
     let watch = Watch {
-        kind,
-        left,
-        right,
-        up,
+        table,
         look,
         want,
         links,
         numbers,
+        places,
         own,
         firsts,
         rows: o.rows,

@@ -4,7 +4,7 @@ use borrow.Author.Needs.{needs}
 use Prim.Native.Nat.{ℕ}
 use mathlib.Core.Path.{_∙_}
 use lib.ListN.{length-replicate}
-use Rattle.rules.proofs.TextOpened.{right-byte, says, some-monitors, zero-arrays, right-letter, right-open}
+use Rattle.rules.proofs.TextOpened.{right-byte, says, some-monitors, zero-arrays, right-letter, rows-room, right-open}
 use Rattle.rules.proofs.open_in.Statement.{statement}
 use Rattle.rules.proofs.open_in.Tie as tie
 
@@ -38,11 +38,17 @@ first-values-requires c κs = (says _ (c .before .before .before .before .before
 start-marks-requires : tie.Need-start-marks-requires
 start-marks-requires c κs = says _ (c .before .before .before .before .before .before .before .before .before .before .before .before .before .before .before .before .before .before .before .before .before .before .before .before .before .before .before .pre .0) _ _ _ _ _ _ _ _ _ (c .before .before .before .before .before .before .before .before .before .before .before .before .before .before .before .before .before .before .before .before .before .read .ensures .0) (c .before .before .before .before .before .before .before .before .before .before .before .before .before .before .before .before .before .if1 .left) .monitors .few
 
+letter-rows-requires : tie.Need-letter-rows-requires
+letter-rows-requires c κs = (rows-room _ (c .before .before .before .before .before .before .before .before .before .before .before .before .before .before .before .before .before .before .before .before .before .before .before .before .before .before .before .before .before .pre .0) _ _ _ _ _ _ _ _ _ (c .before .before .before .before .before .before .before .before .before .before .before .before .before .before .before .before .before .before .before .before .before .before .before .read .ensures .0) (c .before .before .before .before .before .before .before .before .before .before .before .before .before .before .before .before .before .before .before .if1 .left) _ _ (c .before .before .before .before .before .before .open-monitors .ensures .0) (c .before .before .before .before .if2 .left), c .before .before .before .before .before .before .open-monitors .ensures .1 .kinds)
+
+row-words-requires : tie.Need-row-words-requires
+row-words-requires c κs = let a = c .before .before .before .before .before .before .before .before .before .before .before .open-monitors .ensures .1 in (rows-room _ (c .before .before .before .before .before .before .before .before .before .before .before .before .before .before .before .before .before .before .before .before .before .before .before .before .before .before .before .before .before .before .before .before .before .before .pre .0) _ _ _ _ _ _ _ _ _ (c .before .before .before .before .before .before .before .before .before .before .before .before .before .before .before .before .before .before .before .before .before .before .before .before .before .before .before .before .read .ensures .0) (c .before .before .before .before .before .before .before .before .before .before .before .before .before .before .before .before .before .before .before .before .before .before .before .before .if1 .left) _ _ (c .before .before .before .before .before .before .before .before .before .before .before .open-monitors .ensures .0) (c .before .before .before .before .before .before .before .before .before .if2 .left), a .kinds, a .lefts, a .rights, a .ups)
+
 same-length-3 : tie.Need-same-length-3
-same-length-3 c = c .before .before .before .before .before .before .before .before .before .before .before .before .before .before .before .before .before .before .before .before .before .before .read .ensures .1
+same-length-3 c = c .before .before .before .before .before .before .before .before .before .before .before .before .before .before .before .before .before .before .before .before .before .before .before .before .before .before .before .before .before .read .ensures .1
 
 returns-3 : tie.Need-returns-3
-returns-3 c = let r = right-open _ (c .before .before .before .before .before .before .before .before .before .before .before .before .before .before .before .before .before .before .before .before .before .before .before .before .before .before .before .before .pre .0) _ _ _ _ _ _ _ _ _ (c .before .before .before .before .before .before .before .before .before .before .before .before .before .before .before .before .before .before .before .before .before .before .read .ensures .0) (c .before .before .before .before .before .before .before .before .before .before .before .before .before .before .before .before .before .before .if1 .left) _ _ (c .before .before .before .before .before .open-monitors .ensures .0) (c .before .before .before .if2 .left) _ _ (c .before .first-values .ensures) (c .start-marks .ensures) in (r .outcome, r .watch, c .before .before .before .before .before .before .before .before .before .before .before .before .before .before .before .before .before .before .before .before .before .before .read .ensures .1)
+returns-3 c = let r = right-open _ (c .before .before .before .before .before .before .before .before .before .before .before .before .before .before .before .before .before .before .before .before .before .before .before .before .before .before .before .before .before .before .before .before .before .before .before .pre .0) _ _ _ _ _ _ _ _ _ (c .before .before .before .before .before .before .before .before .before .before .before .before .before .before .before .before .before .before .before .before .before .before .before .before .before .before .before .before .before .read .ensures .0) (c .before .before .before .before .before .before .before .before .before .before .before .before .before .before .before .before .before .before .before .before .before .before .before .before .before .if1 .left) _ _ (c .before .before .before .before .before .before .before .before .before .before .before .before .open-monitors .ensures .0) (c .before .before .before .before .before .before .before .before .before .before .if2 .left) _ _ _ _ (c .before .before .before .before .before .before .before .before .first-values .ensures) (c .before .before .before .before .before .before .before .start-marks .ensures) (c .before .before .before .before .before .letter-rows .ensures) (c .row-words .ensures) in (r .outcome, r .watch, c .before .before .before .before .before .before .before .before .before .before .before .before .before .before .before .before .before .before .before .before .before .before .before .before .before .before .before .before .before .read .ensures .1)
 
 pub open-in-spec : {M : Type 1} → statement M
 open-in-spec =
@@ -58,5 +64,7 @@ open-in-spec =
     returns-2
     first-values-requires
     start-marks-requires
+    letter-rows-requires
+    row-words-requires
     same-length-3
     returns-3)

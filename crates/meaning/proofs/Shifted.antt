@@ -1,0 +1,199 @@
+-- Letters numbered from k on instead of 0: the machine does the same, each number k greater. Assumes nothing.
+use mathlib.Core.Path.{_≡_, refl, sym, ap, ap₂, _∙_, subst}
+use mathlib.Core.Bool.{Bool, true, false, cond, not, _||_}
+use mathlib.Core.List.{List, [], _∷_, _++_, map, map-append}
+use mathlib.Core.Option.{Option, none, some}
+use Prim.Native.Nat.{ℕ, _+_}
+use native.Mathlib.Omega.{arith}
+use lib.Dec.{T, eqb}
+use borrow.Author.Tests.{eqb-true, eqb-false, eq-eqb, ne-eqb}
+use Rattle.meaning.specs.Lists.{any, carry, each, only, member}
+use Rattle.meaning.specs.Expression.{Letter, Exp, letter, seq, alt, star, pipe, letters, size, renumbered, Ordered}
+use Rattle.meaning.specs.Fit.{Tick, meets, write, writeMet}
+use Rattle.meaning.specs.Positions.{Way, stuck, over, orElse, joined, ask, has, leave, Positions, at-start, on, goAll, go, kept}
+use Rattle.meaning.proofs.Step.{Solid}
+use Rattle.meaning.proofs.Summary.{nullable-renumbered}
+
+module _ (k : ℕ) where
+  -- ---- k added to each number ----
+
+  abbrev pub shiftAll : List ℕ → List ℕ
+  shiftAll ns = map (λ n. k + n) ns
+
+  abbrev pub shift : Option (List ℕ) → Option (List ℕ)
+  shift none = none
+  shift (some ns) = some (shiftAll ns)
+
+  abbrev pub shiftPositions : Positions → Positions
+  shiftPositions at-start = at-start
+  shiftPositions (on ns) = on (shiftAll ns)
+
+  abbrev pub shiftLetter : Letter → Letter
+  shiftLetter l = record { number = k + l .number; literals = l .literals; writes = l .writes }
+
+  unfoldable pub shifted : Exp → Exp
+  shifted (letter l) = letter (shiftLetter l)
+  shifted (seq e f) = seq (shifted e) (shifted f)
+  shifted (alt e f) = alt (shifted e) (shifted f)
+  shifted (star e) = star (shifted e)
+  shifted (pipe e f) = pipe (shifted e) (shifted f)
+
+  -- what is numbered from j on is numbered from k + j on
+  pub renumbered-shifted : (i j : ℕ) (e : Exp) → i ≡ k + j → Ordered j e → renumbered i e ≡ shifted e
+  unfolding renumbered shifted
+  renumbered-shifted i j (letter l) p o = ap (λ n. letter (record { number = n; literals = l .literals; writes = l .writes })) (omega (arith, o))
+  renumbered-shifted i j (seq e f) p (o, u) = ap₂ seq (renumbered-shifted i j e p o) (renumbered-shifted (i + size e) (j + size e) f (omega arith) u)
+  renumbered-shifted i j (alt e f) p (o, u) = ap₂ alt (renumbered-shifted i j e p o) (renumbered-shifted (i + size e) (j + size e) f (omega arith) u)
+  renumbered-shifted i j (star e) p o = ap star (renumbered-shifted i j e p o)
+  renumbered-shifted i j (pipe e f) p (o, u) = ap₂ pipe (renumbered-shifted i j e p o) (renumbered-shifted (i + size e) (j + size e) f (omega arith) u)
+
+  -- ---- letters ----
+
+  pub letters-shifted : (e : Exp) → letters (shifted e) ≡ map shiftLetter (letters e)
+  unfolding letters shifted
+  letters-shifted (letter l) = refl
+  letters-shifted (seq e f) = ap₂ _++_ (letters-shifted e) (letters-shifted f) ∙ sym (map-append shiftLetter (letters e) (letters f))
+  letters-shifted (alt e f) = ap₂ _++_ (letters-shifted e) (letters-shifted f) ∙ sym (map-append shiftLetter (letters e) (letters f))
+  letters-shifted (star e) = letters-shifted e
+  letters-shifted (pipe e f) = ap₂ _++_ (letters-shifted e) (letters-shifted f) ∙ sym (map-append shiftLetter (letters e) (letters f))
+
+  pub eqb-shifted : (a b : ℕ) → eqb (k + a) (k + b) ≡ eqb a b
+  eqb-shifted a b = by (eqb a b) refl
+    where
+      by : (o : Bool) → eqb a b ≡ o → eqb (k + a) (k + b) ≡ o
+      by true p = eq-eqb (k + a) (k + b) (omega (arith, eqb-true a b p))
+      by false p = ne-eqb (k + a) (k + b) (λ e. eqb-false a b p (omega arith))
+
+  pub member-shifted : (n : ℕ) (ns : List ℕ) → member (k + n) (shiftAll ns) ≡ member n ns
+  member-shifted n [] = refl
+  member-shifted n (m ∷ ns) = ap₂ _||_ (eqb-shifted n m) (member-shifted n ns)
+
+  has-shifted : (n : ℕ) (e : Exp) → has (k + n) (shifted e) ≡ has n e
+  has-shifted n e = ap (any (λ l. eqb (k + n) (l .number))) (letters-shifted e) ∙ over-all (letters e)
+    where
+      over-all : (ls : List Letter) → any (λ l. eqb (k + n) (l .number)) (map shiftLetter ls) ≡ any (λ l. eqb n (l .number)) ls
+      over-all [] = refl
+      over-all (l ∷ ls) = ap₂ _||_ (eqb-shifted n (l .number)) (over-all ls)
+
+  -- ---- ways ----
+
+  shift-or : (a b : Option (List ℕ)) → orElse (shift a) (shift b) ≡ shift (orElse a b)
+  shift-or none b = refl
+  shift-or (some ns) b = refl
+
+  shift-joined : (a b : Option (List ℕ)) → joined (shift a) (shift b) ≡ shift (joined a b)
+  shift-joined none b = refl
+  shift-joined (some ns) none = refl
+  shift-joined (some ns) (some ms) = ap some (sym (map-append (λ n. k + n) ns ms))
+
+  shift-cond : (o p : Bool) (a b x y : Option (List ℕ)) → p ≡ o → x ≡ shift a → y ≡ shift b → cond p x y ≡ shift (cond o a b)
+  shift-cond true p a b x y q u v = rw q u
+  shift-cond false p a b x y q u v = rw q v
+
+  -- L does what K does
+  abbrev pub Like : (L K : Way) → Type 0
+  Like L K = (t : Tick) → L t ≡ shift (K t)
+
+  joined-like : (L K M N : Way) → Like L K → Like M N → Like (λ t. joined (L t) (M t)) (λ t. joined (K t) (N t))
+  joined-like L K M N h g t = ap₂ joined (h t) (g t) ∙ shift-joined (K t) (N t)
+
+  pub ask-shifted : (e : Exp) (L K : Way) → Like L K → Like (ask (shifted e) L) (ask e K)
+  unfolding ask shifted meets
+  ask-shifted (letter l) L K h t = shift-cond (meets l t) (meets l t) _ none _ none refl refl refl
+  ask-shifted (seq e f) L K h t = ask-shifted e (ask (shifted f) L) (ask f K) (ask-shifted f L K h) t
+  ask-shifted (alt e f) L K h t = ap₂ orElse (ask-shifted e L K h t) (ask-shifted f L K h t) ∙ shift-or (ask e K t) (ask f K t)
+  ask-shifted (star e) L K h t = ap₂ orElse (h t) (ask-shifted e stuck stuck (λ u. refl) t) ∙ shift-or (K t) (ask e stuck t)
+  ask-shifted (pipe e f) L K h t = ask-shifted e _ _ (joined-like L K (ask (shifted f) over) (ask f over) h (ask-shifted f over over (λ u. refl))) t
+
+  pub leave-shifted : (n : ℕ) (e : Exp) (L K : Way) → Like L K → Like (leave (k + n) (shifted e) L) (leave n e K)
+  unfolding leave shifted
+  leave-shifted n (letter l) L K h t = h t
+  leave-shifted n (seq e f) L K h t = shift-cond (has n e) (has (k + n) (shifted e)) _ _ _ _ (has-shifted n e)
+      (leave-shifted n e (ask (shifted f) L) (ask f K) (ask-shifted f L K h) t) (leave-shifted n f L K h t)
+  leave-shifted n (alt e f) L K h t = shift-cond (has n e) (has (k + n) (shifted e)) _ _ _ _ (has-shifted n e) (leave-shifted n e L K h t) (leave-shifted n f L K h t)
+  leave-shifted n (star e) L K h t = leave-shifted n e (ask (star (shifted e)) L) (ask (star e) K) (ask-shifted (star e) L K h) t
+  leave-shifted n (pipe e f) L K h t = shift-cond (has n e) (has (k + n) (shifted e)) _ _ _ _ (has-shifted n e)
+      (leave-shifted n e _ _ (joined-like L K (ask (shifted f) over) (ask f over) h (ask-shifted f over over (λ u. refl))) t)
+      (leave-shifted n f over over (λ u. refl) t)
+
+  pub goAll-shifted : (X W : ℕ → Way) → ((n : ℕ) → Like (X (k + n)) (W n)) → (ns : List ℕ) (t : Tick) → goAll X (shiftAll ns) t ≡ shift (goAll W ns t)
+  unfolding goAll
+  goAll-shifted X W h [] t = refl
+  goAll-shifted X W h (n ∷ ns) t = ap₂ joined (h n t) (goAll-shifted X W h ns t) ∙ shift-joined (W n t) (goAll W ns t)
+
+  go-shifted : (m : Exp) (x : Positions) (t : Tick) → go (shifted m) (shiftPositions x) t ≡ shift (go m x t)
+  unfolding go shifted
+  go-shifted m at-start t = ask-shifted (star m) stuck stuck (λ u. refl) t
+  go-shifted m (on ns) t = goAll-shifted _ _ (λ n. leave-shifted n (star m) stuck stuck (λ u. refl)) ns t
+
+  -- ---- letters met ----
+
+  kept-shifted : (m : Exp) (ns : List ℕ) → kept (shifted m) (shiftAll ns) ≡ shiftAll (kept m ns)
+  unfolding kept
+  kept-shifted m ns = ap (λ ls. each ls (λ l. only (member (l .number) (shiftAll ns)) (l .number ∷ []))) (letters-shifted m) ∙ over-all (letters m)
+    where
+      one : (o p : Bool) (n : ℕ) (xs : List ℕ) → p ≡ o → only p ((k + n) ∷ []) ++ shiftAll xs ≡ shiftAll (only o (n ∷ []) ++ xs)
+      one true p n xs q = rw q
+      one false p n xs q = rw q
+
+      over-all : (ls : List Letter)
+          → each (map shiftLetter ls) (λ l. only (member (l .number) (shiftAll ns)) (l .number ∷ [])) ≡ shiftAll (each ls (λ l. only (member (l .number) ns) (l .number ∷ [])))
+      over-all [] = refl
+      over-all (l ∷ ls) = ap (λ xs. only (member (k + l .number) (shiftAll ns)) ((k + l .number) ∷ []) ++ xs) (over-all ls)
+          ∙ one (member (l .number) ns) (member (k + l .number) (shiftAll ns)) (l .number) _ (member-shifted (l .number) ns)
+
+  writeMet-shifted : (t : Tick) (m : Exp) (ns σ : List ℕ) → writeMet t (shifted m) (shiftAll ns) σ ≡ writeMet t m ns σ
+  unfolding writeMet
+  writeMet-shifted t m ns σ =
+      ap (carry (λ s l. cond (member (l .number) (shiftAll ns)) (carry (write t) s (l .writes)) s) σ) (letters-shifted m) ∙ over-all (letters m) σ
+    where
+      over-all : (ls : List Letter) (σ : List ℕ)
+          → carry (λ s l. cond (member (l .number) (shiftAll ns)) (carry (write t) s (l .writes)) s) σ (map shiftLetter ls)
+          ≡ carry (λ s l. cond (member (l .number) ns) (carry (write t) s (l .writes)) s) σ ls
+      over-all [] σ = refl
+      over-all (l ∷ ls) σ = over-all ls _ ∙ ap (λ o. carry (λ s l. cond (member (l .number) ns) (carry (write t) s (l .writes)) s) (cond o (carry (write t) σ (l .writes)) σ) ls) (member-shifted (l .number) ns)
+
+-- ---- a part numbered from j on, now from k + j on ----
+
+module _ (k j : ℕ) (e : Exp) (ordered : Ordered j e) where
+  same-part : renumbered (k + j) e ≡ shifted k e
+  same-part = renumbered-shifted k (k + j) j e refl ordered
+
+  -- literals and writes are as they were
+  pub letters-renumbered : letters (renumbered (k + j) e) ≡ map (shiftLetter k) (letters e)
+  letters-renumbered = ap letters same-part ∙ letters-shifted k e
+
+  pub ask-renumbered : (L K : Way) → Like k L K → Like k (ask (renumbered (k + j) e) L) (ask e K)
+  ask-renumbered L K h t = rw same-part (ask-shifted k e L K h t)
+
+  pub leave-renumbered : (n : ℕ) (L K : Way) → Like k L K → Like k (leave (k + n) (renumbered (k + j) e) L) (leave n e K)
+  leave-renumbered n L K h t = rw same-part (leave-shifted k n e L K h t)
+
+-- ---- a monitor, numbered from k on ----
+
+module _ (k : ℕ) (m : Exp) (ordered : Ordered 0 m) where
+  same-monitor : renumbered k m ≡ shifted k m
+  same-monitor = renumbered-shifted k k 0 m (omega arith) ordered
+
+  pub go-renumbered : (x : Positions) (t : Tick) → go (renumbered k m) (shiftPositions k x) t ≡ shift k (go m x t)
+  go-renumbered x t = rw same-monitor (go-shifted k m x t)
+
+  pub kept-renumbered : (ns : List ℕ) → kept (renumbered k m) (shiftAll k ns) ≡ shiftAll k (kept m ns)
+  kept-renumbered ns = rw same-monitor (kept-shifted k m ns)
+
+  pub writeMet-renumbered : (t : Tick) (ns σ : List ℕ) → writeMet t (renumbered k m) (shiftAll k ns) σ ≡ writeMet t m ns σ
+  writeMet-renumbered t ns σ = rw same-monitor (writeMet-shifted k t m ns σ)
+
+-- rule 10 asks for no numbers
+pub renumbered-solid : (k : ℕ) (e : Exp) → Solid e → Solid (renumbered k e)
+unfolding renumbered
+renumbered-solid k (letter l) s = tt
+renumbered-solid k (seq e f) s = (renumbered-solid k e (s .0), renumbered-solid (k + size e) f (s .1))
+renumbered-solid k (alt e f) s = (renumbered-solid k e (s .0), renumbered-solid (k + size e) f (s .1))
+renumbered-solid k (star e) s = (subst (λ b. T (not b)) (sym (nullable-renumbered k e)) (s .0), renumbered-solid k e (s .1))
+renumbered-solid k (pipe e f) s = (
+  subst (λ b. T (not b)) (sym (nullable-renumbered k e)) (s .0),
+  subst (λ b. T (not b)) (sym (nullable-renumbered (k + size e) f)) (s .1),
+  renumbered-solid k e (s .2),
+  renumbered-solid (k + size e) f (s .3),
+)

@@ -1,0 +1,229 @@
+-- Every list of tick calls on the watch of an accepted text gets the replies that the text's meaning fixes. Assumes nothing.
+use mathlib.Core.Path.{_≡_, refl, sym, ap, _∙_, subst, subst₂}
+use mathlib.Core.Bool.{true}
+use mathlib.Core.Option.{Option, none}
+use mathlib.Core.Logic.{⊎-elim}
+use mathlib.Core.List.{List, [], _∷_, map}
+use Prim.Native.Nat.{ℕ, zero, suc, _+_, _*_, _<_, _≤_}
+use native.Mathlib.Omega.{arith}
+use lib.Dec.{T}
+use lib.ListN.{length, getD}
+use Rattle.meaning.specs.Lists.{_∈_, carry, total}
+use Rattle.meaning.specs.Answers.{value}
+use Rattle.meaning.specs.Expression.{Letter, Exp, star, letters, size, rows, renumbered, Ordered, numberedFrom}
+use Rattle.meaning.specs.Shape.{agree, AllSized, AllRead}
+use Rattle.meaning.specs.Fit.{Tick, meets, write}
+use Rattle.meaning.specs.Positions as machine
+use Rattle.meaning.specs.Table.{Table}
+use Rattle.meaning.specs.Calls.{replies}
+use Rattle.meaning.specs.Opening.{Opened, openText}
+use Rattle.meaning.proofs.ListLaws.{here, there, no-∈, cons-∈, map-∈, ∈-map}
+use Rattle.meaning.proofs.Step.{Solid}
+use Rattle.meaning.proofs.Within.{LetterWithin}
+use Rattle.meaning.proofs.Walk.{a-row}
+use Rattle.meaning.proofs.Shifted.{shiftLetter, letters-renumbered}
+use Rattle.meaning.proofs.Accept.{accept-solid}
+use Rattle.meaning.proofs.Numbering.{renumbered-size, renumbered-rows}
+use Rattle.meaning.proofs.Openings.{machine-right, all-read}
+use Rattle.rules.specs.declared.Watch.{Watch}
+use Rattle.rules.specs.Cells.{Link}
+use Rattle.rules.specs.Laying.{slotWord, slotNumber, slotsOf}
+use Rattle.rules.specs.Watches.{watchOf}
+use Rattle.monitor.specs.Letters.{Given, letterMet, writeLetter}
+use Rattle.monitor.specs.Ticks.{steps, Layout, emptyMemory, stepWithin}
+use Rattle.monitor.specs.Calls.{Moving, givenOf, layoutOf, stateOf, repliesOf}
+use Rattle.monitor.proofs.Padded.{padded}
+use Rattle.monitor.proofs.Readable.{Readable, accepted-readable}
+use Rattle.monitor.proofs.LetterTests.{LetterGiven, letter-met, letter-writes}
+use Rattle.monitor.proofs.Coded.{Coded}
+use Rattle.monitor.proofs.Memory.{Memory, waysOf, memory-empty}
+use Rattle.monitor.proofs.MemoryLaws.{asks-right, leaves-right}
+use Rattle.monitor.proofs.Monitors.{Standing, AllStanding, all-go}
+use Rattle.monitor.proofs.Moves.{AllWriteAs, MarksAll}
+use Rattle.monitor.proofs.Watching.{Steps, steps-right}
+use Rattle.monitor.proofs.Replies.{Like, machine-replies}
+use Rattle.monitor.proofs.Starts.{answers-go, starts}
+use Rattle.monitor.proofs.Numbered.{programOf}
+use Rattle.monitor.proofs.LetterRows.{HeldAll}
+use Rattle.monitor.proofs.Program
+
+-- a tick's word and store values
+abbrev at : (word : ℕ) → (stores : List ℕ) → Tick
+at w σ = record { word = w; stores = σ }
+
+-- the letters' numbers in a watch test and write as the letters do
+record LettersRight (o : Opened) : Type 0 where
+  pub tests : (m : Exp) → m ∈ programOf o → (x : Letter) → x ∈ letters m → (σ : List ℕ) → length σ ≡ length (o .initial) → (w : ℕ)
+      → letterMet (givenOf (watchOf (value o)) (padded σ) w) (x .number) ≡ meets x (at w σ)
+  pub writes : (m : Exp) → m ∈ programOf o → (x : Letter) → x ∈ letters m → (σ : List ℕ) → length σ ≡ length (o .initial) → (ρ : List ℕ) → length ρ ≡ length (o .initial) → (w : ℕ)
+      → writeLetter (givenOf (watchOf (value o)) (padded σ) w) (x .number) (padded ρ) ≡ padded (carry (write (at w σ)) ρ (x .writes))
+
+-- ---- letters
+
+slot-at : (f : Option Link → ℕ) → f none ≡ 0 → (xs : List (Option Link)) (j : ℕ) → getD (map f xs) j 0 ≡ f (getD xs j none)
+slot-at f z [] j = sym z
+slot-at f z (x ∷ xs) zero = refl
+slot-at f z (x ∷ xs) (suc j) = slot-at f z xs j
+
+letters-at : (l : ℕ) (m : Exp) → Ordered 0 m → letters (renumbered l m) ≡ map (shiftLetter l) (letters m)
+letters-at l m o = let z : l ≡ l + 0 = omega arith in ap (λ (k : ℕ). letters (renumbered k m)) z ∙ letters-renumbered l 0 m o
+
+-- a letter numbered over all monitors is one of its monitor, but for its number
+original : (l : ℕ) (ms : List Exp) → ((m : Exp) → m ∈ ms → Ordered 0 m) → (m : Exp) → m ∈ numberedFrom l ms → (x : Letter) → x ∈ letters m
+    → (k : Exp) × (y : Letter) × (k ∈ ms) × (y ∈ letters k) × (y .literals ≡ x .literals) × (y .writes ≡ x .writes)
+unfolding numberedFrom
+original l [] o m i x j = absurd (no-∈ i)
+original l (k ∷ ms) o m i x j = ⊎-elim
+    (λ p.
+    let (y, q, r) = map-∈ (shiftLetter l) (letters k) (subst (λ (xs : List Letter). x ∈ xs) (ap letters p ∙ letters-at l k (o k (here refl))) j) in
+    (k, y, here refl, q, ap (λ (z : Letter). z .literals) r, ap (λ (z : Letter). z .writes) r))
+    (λ p. let (n, y, q, r, s, t) = original (l + size k) ms (λ z u. o z (there u)) m p x j in (n, y, there q, r, s, t))
+    (cons-∈ i)
+
+module _ (text : List ℕ) (o : Opened) (e : openText text ≡ value o) (m : Exp) (i : m ∈ programOf o) (x : Letter) (j : x ∈ letters m) where
+  readable : (σ : List ℕ) → length σ ≡ length (o .initial) → Readable x (length σ)
+  unfolding programOf
+  readable σ long =
+      let (k, y, p, q, r, s) = original 0 (o .monitors) (λ n u. all-read text o e n u .0) m i x j in
+      let a = accepted-readable text o e k p y q in
+      subst (Readable x) (sym long)
+      (record {
+        wires = a .wires;
+        few-wires = a .few-wires;
+        few-stores = a .few-stores;
+        within = subst₂ (LetterWithin (a .wires) (length (o .initial))) r s (a .within);
+        sized = subst AllSized r (a .sized);
+        agreed = subst (λ ls. T (agree ls)) r (a .agreed);
+      })
+
+  letter-given : (σ : List ℕ) (w : ℕ) → LetterGiven (givenOf (watchOf (value o)) σ w) (x .number) x
+  letter-given σ w =
+      let a = Program.letters-stand o (Program.text-counted text o e) m i x j in
+      record {
+        looks = a .look;
+        wants = a .want;
+        links = λ k h. a .links k h ∙ slot-at slotWord refl (slotsOf x) k;
+        numbers = λ k h. a .numbers k h ∙ slot-at slotNumber refl (slotsOf x) k;
+      }
+
+letters-right : (text : List ℕ) (o : Opened) → openText text ≡ value o → LettersRight o
+letters-right text o e = record {
+  tests = λ m i x j σ l w. letter-met (givenOf (watchOf (value o)) (padded σ) w) (x .number) x σ (letter-given text o e m i x j (padded σ) w) (readable text o e m i x j σ l) refl;
+  writes = λ m i x j σ l ρ k w.
+      letter-writes (givenOf (watchOf (value o)) (padded σ) w) (x .number) x σ (letter-given text o e m i x j (padded σ) w) (readable text o e m i x j σ l) (at w σ) refl ρ (k ∙ sym l);
+}
+
+-- ---- where each monitor stands
+
+laid-rows : (v : Watch) (k r l : ℕ) (ms : List Exp) → Program.LaidFrom v k r l ms → r + total rows ms ≡ v .rows
+laid-rows v k r l [] d = let e = d .1 in omega (arith, e)
+laid-rows v k r l (m ∷ ms) d = let e = laid-rows v (suc k) (r + rows m) (l + size m) ms (d .1) in omega (arith, e)
+
+module _ (v : Watch) (R : Table) (n : ℕ) (few : n ≤ 1024) (rows-are : v .rows ≡ n) (low : (i : ℕ) → i < v .letters → getD (v .places) i 0 < n) where
+  standing : (i r l : ℕ) (ms : List Exp) → HeldAll R (λ k. getD (v .places) k 0) r (numberedFrom l ms) → Program.LaidFrom v i r l (numberedFrom l ms)
+      → AllStanding R (v .places) (layoutOf v) n i r l ms
+  unfolding numberedFrom AllStanding
+  standing i r l [] h d = tt
+  standing i r l (m ∷ ms) h d =
+      let a = renumbered-rows l m in
+      let b = renumbered-size l m in
+      let u = laid-rows v i r l (renumbered l m ∷ numberedFrom (l + size m) ms) d in
+      let w = a-row m in
+      let q = d .0 in (
+        record {
+          held = h .0;
+          top = h .1;
+          within = omega (arith, u, w, a, rows-are);
+          letters-within = λ k x y. low k (let z = q .within in omega (arith, y, z, b));
+          few = omega (arith, u, a, rows-are, few);
+          row = q .own;
+          first = q .first;
+          end = let z = q .end in z ∙ ap (λ (x : ℕ). l + x) b;
+        },
+        standing (suc i) (r + rows m) (l + size m) ms
+            (subst (λ (x : ℕ). HeldAll R (λ k. getD (v .places) k 0) (r + x) (numberedFrom (l + size m) ms)) a (h .2))
+            (subst (λ (y : ℕ). Program.LaidFrom v (suc i) (r + rows m) (l + y) (numberedFrom (l + size m) ms)) b
+            (subst (λ (x : ℕ). Program.LaidFrom v (suc i) (r + x) (l + size (renumbered l m)) (numberedFrom (l + size m) ms)) a (d .1))),
+      )
+
+-- the letters' writes, monitor by monitor
+module _ (g : Given) (t : Tick) (Q : List ℕ) (pad : List ℕ → List ℕ) (stores : ℕ) where
+  all-write : (l : ℕ) (ms : List Exp) → ((m : Exp) → m ∈ ms → Ordered 0 m)
+      → ((m : Exp) → m ∈ numberedFrom l ms → (x : Letter) → x ∈ letters m → (ρ : List ℕ) → length ρ ≡ stores → writeLetter g (x .number) (pad ρ) ≡ pad (carry (write t) ρ (x .writes)))
+      → AllWriteAs g t Q pad stores l ms
+  unfolding numberedFrom AllWriteAs
+  all-write l [] o h = tt
+  all-write l (m ∷ ms) o h = (
+    λ x i ρ e. h (renumbered l m) (here refl) (shiftLetter l x)
+        (subst (λ (xs : List Letter). shiftLetter l x ∈ xs) (sym (letters-at l m (o m (here refl)))) (∈-map (shiftLetter l) i)) ρ e,
+    all-write (l + size m) ms (λ y i. o y (there i)) (λ y i. h y (there i)),
+  )
+
+-- ---- the theorem
+
+module _ (text : List ℕ) (o : Opened) (e : openText text ≡ value o) where
+  right : LettersRight o
+  right = letters-right text o e
+
+  v : Watch
+  v = watchOf (value o)
+
+  c : Program.Counted o
+  c = Program.text-counted text o e
+
+  read-all : AllRead (o .monitors)
+  read-all = all-read text o e
+
+  ordered : (m : Exp) → m ∈ o .monitors → Ordered 0 m
+  ordered m i = read-all m i .0
+
+  solid : (m : Exp) → m ∈ o .monitors → Ordered 0 m × Solid (star m)
+  solid m i = (read-all m i .0, accept-solid m (read-all m i .1))
+
+  stands : AllStanding (Program.tableOf o) (v .places) (layoutOf v) (o .rowCount) 0 0 0 (o .monitors)
+  unfolding v
+  stands =
+      standing v (Program.tableOf o) (o .rowCount) (let f = c .few-rows in omega (arith, f)) (Program.rows-counted o c)
+      (λ i h. Program.places-low o c i (subst (λ (z : ℕ). i < z) (Program.letters-counted o c) h)) 0 0 0 (o .monitors) (Program.program-held o c) (Program.program-laid o c)
+
+  module _ (σ : List ℕ) (long : length σ ≡ length (o .initial)) (w : ℕ) where
+    abbrev g : Given
+    g = givenOf v (padded σ) w
+
+    coded : Coded (Program.tableOf o) g (at w σ) (o .rowCount)
+    unfolding v
+    coded = Program.program-coded o c g (at w σ) refl (λ m i x j. right .tests m i x j σ long w)
+
+    abbrev Good : List ℕ → Type 0
+    Good = Memory (waysOf steps (Program.tableOf o) (at w σ)) (o .rowCount)
+
+    step-from : (K : List ℕ) (xs : List machine.Positions) → MarksAll K 0 0 (o .monitors) xs
+        → Steps (o .monitors) (at w σ) σ padded (length (o .initial)) (machine.goEach 0 (o .monitors) xs (at w σ)) (stepWithin g (layoutOf v) K)
+    unfolding v programOf
+    step-from K xs h =
+        steps-right Good (λ M p. p .long) (λ M p. p .bits) (memory-empty (waysOf steps (Program.tableOf o) (at w σ)) (o .rowCount)) g (at w σ) (layoutOf v) K (o .monitors) ordered
+        (Program.monitors-counted o c) (c .few-monitors) (Program.letters-counted o c ∙ sym (c .letters-are)) (let a = c .few-letters in let b = c .letters-are in omega (arith, a, b))
+        xs σ padded (length (o .initial)) h long refl
+        (all-go Good g (at w σ) (Program.tableOf o) (o .rowCount) (layoutOf v) K
+        (λ r l e M p. answers-go _ (o .rowCount) _ M _ (asks-right (Program.tableOf o) g (at w σ) (o .rowCount) coded steps steps r l e (omega arith) true M p))
+        (λ r l e M p. answers-go _ (o .rowCount) _ M _ (leaves-right (Program.tableOf o) g (at w σ) (o .rowCount) coded steps steps r l e (omega arith) true M p))
+        0 0 0 (o .monitors) xs stands solid h)
+        (λ Q. all-write g (at w σ) Q padded (length (o .initial)) 0 (o .monitors) ordered (λ m i x j ρ d. right .writes m i x j σ long ρ d w))
+
+  step-right : (s : Moving) (m : machine.Watch) → Like (o .monitors) padded (length (o .initial)) s m → (w : ℕ)
+      → Steps (o .monitors) (machine.seen m w) (m .stores) padded (length (o .initial)) (machine.ticked (o .monitors) m w) (stepWithin (givenOf v (s .values) w) (layoutOf v) (s .marks))
+  step-right s m l w =
+      subst (λ (z : List ℕ). Steps (o .monitors) (machine.seen m w) (m .stores) padded (length (o .initial)) (machine.ticked (o .monitors) m w) (stepWithin (givenOf v z w) (layoutOf v) (s .marks)))
+      (sym (l .values)) (step-from (m .stores) (l .long) w (s .marks) (m .positions) (l .marks))
+
+  pub calls-answered : (ws : List ℕ) → repliesOf (watchOf (value o)) ws ≡ replies (o .monitors) (o .initial) (o .wires) ws
+  unfolding v watchOf
+  calls-answered ws =
+      machine-replies (o .monitors) padded (length (o .initial)) v (Program.monitors-counted o c) (c .few-monitors)
+      (let a = c .few-letters in let b = Program.letters-counted o c in omega (arith, a, b)) step-right (stateOf v) (machine.opened (o .monitors) (o .initial))
+      (record {
+        marks = starts (length (o .monitors)) (c .few-monitors) (o .monitors) refl (let a = c .few-letters in let b = c .letters-are in omega (arith, a, b));
+        values = refl;
+        long = refl;
+      }) ws
+      ∙ machine-right text o e ws

@@ -1,0 +1,81 @@
+-- A letter at a tick, by the code's branches: whether it is met, and what it writes. Assumes nothing.
+use mathlib.Core.Path.{_≡_, refl, sym, _∙_, ap, ap₂}
+use mathlib.Core.Bool.{Bool, true, false, cond, _&&_, _||_}
+use mathlib.Core.List.{List}
+use Prim.Native.Nat.{ℕ, _+_, _*_, _/_, _%_, _^_}
+use borrow.Author.Tests.{eq-eqb, ne-eqb}
+use lib.Dec.{eqb}
+use lib.Bits.{bitAnd}
+use lib.ListN.{getD, set}
+use Rattle.meaning.specs.Masks.{passes}
+use Rattle.rules.specs.Words.{part0, part1, part2}
+use Rattle.monitor.specs.Letters.{Given, given, linkValue, testMet, letterMet, writeSlot, writeLetter}
+
+-- ---- choices
+
+pub taken : {A : Type 0} (b : Bool) (x y : A) → b ≡ true → cond b x y ≡ x
+taken b x y e = rw e refl
+
+pub left : {A : Type 0} (b : Bool) (x y : A) → b ≡ false → cond b x y ≡ y
+left b x y e = rw e refl
+
+pub either : (a b : Bool) → a ≡ true → true ≡ (a || b)
+either a b e = rw e refl
+
+pub other : (a b : Bool) → a ≡ false → b ≡ (a || b)
+other a b e = rw e refl
+
+pub neither : (a b : Bool) → a ≡ false → false ≡ (a && b)
+neither a b e = rw e refl
+
+pub both : (a b : Bool) → a ≡ true → b ≡ (a && b)
+both a b e = rw e refl
+
+-- ---- a link's value
+
+pub by-number : (x v w p : ℕ) → p ≡ part1 x → p ≡ 2 → v ≡ linkValue x v w
+by-number x v w p e f = sym (taken (eqb (part1 x) 2) v _ (eq-eqb (part1 x) 2 (sym e ∙ f)))
+
+pub by-wires : (x v w p q : ℕ) → p ≡ part1 x → (p ≡ 2 → ⊥) → q ≡ part2 x → bitAnd (w / 2 ^ (q % 64)) v ≡ linkValue x v w
+by-wires x v w p q e f d =
+    ap (λ (n : ℕ). bitAnd (w / 2 ^ (n % 64)) v) d ∙ sym (left (eqb (part1 x) 2) v _ (ne-eqb (part1 x) 2 (λ (z : part1 x ≡ 2). f (e ∙ z))))
+
+-- ---- a slot's test, and its write
+
+module _ (T A B L N S : List ℕ) (w slot : ℕ) where
+  pub no-test : getD L slot 0 ≡ 0 → true ≡ testMet (given T A B L N S w) slot
+  no-test z = either (eqb (getD L slot 0) 0) _ (eq-eqb (getD L slot 0) 0 z)
+
+  pub the-test : (getD L slot 0 ≡ 0 → ⊥) → (p v n : ℕ) → p ≡ part0 (getD L slot 0) → v ≡ getD S p 0 → n ≡ linkValue (getD L slot 0) (getD N slot 0) w
+      → eqb v n ≡ testMet (given T A B L N S w) slot
+  the-test z p v n e f d =
+      ap₂ eqb (f ∙ ap (λ (k : ℕ). getD S k 0) e) d ∙ other (eqb (getD L slot 0) 0) _ (ne-eqb (getD L slot 0) 0 z)
+
+  pub no-write : getD L slot 0 ≡ 0 → (σ : List ℕ) → σ ≡ writeSlot (given T A B L N S w) slot σ
+  no-write z σ = sym (taken (eqb (getD L slot 0) 0) σ _ (eq-eqb (getD L slot 0) 0 z))
+
+  pub the-write : (getD L slot 0 ≡ 0 → ⊥) → (σ τ : List ℕ) (p n : ℕ) → p ≡ part0 (getD L slot 0) → n ≡ linkValue (getD L slot 0) (getD N slot 0) w → τ ≡ set σ p n
+      → τ ≡ writeSlot (given T A B L N S w) slot σ
+  the-write z σ τ p n e d f = f ∙ ap₂ (λ (i a : ℕ). set σ i a) e d ∙ sym (left (eqb (getD L slot 0) 0) σ _ (ne-eqb (getD L slot 0) 0 z))
+
+-- ---- a letter
+
+pub misses : (g : Given) (l : ℕ) (b : Bool) → b ≡ passes (getD (g .look) l 0) (getD (g .want) l 0) (g .word) → b ≡ false → false ≡ letterMet g l
+unfolding letterMet
+misses g l b e f = neither (passes (getD (g .look) l 0) (getD (g .want) l 0) (g .word)) _ (sym e ∙ f)
+
+pub fails : (g : Given) (l : ℕ) (a b : Bool) → a ≡ passes (getD (g .look) l 0) (getD (g .want) l 0) (g .word) → a ≡ true → b ≡ testMet g (4 * l) → b ≡ false
+    → false ≡ letterMet g l
+unfolding letterMet
+fails g l a b e f d h =
+    neither (testMet g (4 * l)) (testMet g (4 * l + 1)) (sym d ∙ h) ∙ both (passes (getD (g .look) l 0) (getD (g .want) l 0) (g .word)) _ (sym e ∙ f)
+
+pub meets : (g : Given) (l : ℕ) (a b c : Bool) → a ≡ passes (getD (g .look) l 0) (getD (g .want) l 0) (g .word) → a ≡ true → b ≡ testMet g (4 * l) → b ≡ true
+    → c ≡ testMet g (4 * l + 1) → c ≡ letterMet g l
+unfolding letterMet
+meets g l a b c e f d h k =
+    k ∙ both (testMet g (4 * l)) (testMet g (4 * l + 1)) (sym d ∙ h) ∙ both (passes (getD (g .look) l 0) (getD (g .want) l 0) (g .word)) _ (sym e ∙ f)
+
+pub writes : (g : Given) (l : ℕ) (σ τ υ : List ℕ) → τ ≡ writeSlot g (4 * l + 2) σ → υ ≡ writeSlot g (4 * l + 3) τ → υ ≡ writeLetter g l σ
+unfolding writeLetter
+writes g l σ τ υ e f = f ∙ ap (writeSlot g (4 * l + 3)) e

@@ -1,0 +1,42 @@
+-- The store values of a watch: those of the meaning, with zeros behind them. Assumes nothing.
+use mathlib.Core.Path.{_≡_, refl, sym, ap, _∙_}
+use mathlib.Core.List.{List, [], _∷_, _++_}
+use Prim.Native.Nat.{ℕ, zero, suc, _+_, _-_, _≤_, _<_}
+use native.Mathlib.Omega.{arith}
+use native.Mathlib.Nat.{zero-add}
+use native.Mathlib.Decide.{decLt}
+use lib.ListN.{length, getD, set, drop, replicate, length-set, List·getD-eq-default, List·getD-append}
+use lib.Seq.{sets, sets-eq, set-append-left, getD-append-add, getD-drop}
+
+-- as a watch's array has them
+abbrev pub padded : List ℕ → List ℕ
+padded σ = sets (replicate 16 0) 0 σ
+
+zeros : (n i : ℕ) → _≡_ {A = ℕ} (getD (replicate n 0) i 0) 0
+zeros zero i = refl
+zeros (suc n) zero = refl
+zeros (suc n) (suc i) = zeros n i
+
+module _ (σ : List ℕ) (few : length σ ≤ 16) where
+  padding : padded σ ≡ σ ++ drop (length σ) (replicate 16 0)
+  padding = sets-eq σ (replicate 16 0) 0 (omega arith) ∙ ap (λ (n : ℕ). σ ++ drop n (replicate 16 0)) (zero-add (length σ))
+
+  -- a load, also behind them
+  pub padded-get : (s : ℕ) → getD (padded σ) s 0 ≡ getD σ s 0
+  padded-get s = ap (λ l. getD l s 0) padding ∙ elim (decLt s (length σ)) [
+    | yes l ↦ List·getD-append σ _ 0 s l
+    | no g ↦
+        let e : s ≡ length σ + (s - length σ) = omega arith in
+        ap (λ (i : ℕ). getD (σ ++ drop (length σ) (replicate 16 0)) i 0) e
+        ∙ getD-append-add σ (drop (length σ) (replicate 16 0)) (s - length σ) 0
+        ∙ getD-drop (length σ) (replicate 16 0) (s - length σ) 0
+        ∙ zeros 16 (length σ + (s - length σ))
+        ∙ sym (List·getD-eq-default σ 0 (omega arith))
+  ]
+
+-- a store
+pub padded-set : (σ : List ℕ) → length σ ≤ 16 → (s v : ℕ) → s < length σ → set (padded σ) s v ≡ padded (set σ s v)
+padded-set σ few s v l =
+    ap (λ r. set r s v) (padding σ few) ∙ set-append-left σ _ s v l
+    ∙ ap (λ (n : ℕ). set σ s v ++ drop n (replicate 16 0)) (sym (length-set σ s v))
+    ∙ sym (padding (set σ s v) (let e = length-set σ s v in omega (arith, e)))

@@ -1,0 +1,80 @@
+-- A list of tick calls on one watch: 16, 17, 15 and the verdicts are those of what moves in it. Assumes nothing.
+use mathlib.Core.Path.{_≡_, refl, sym, ap, ap₂, _∙_, subst}
+use mathlib.Core.Bool.{Bool, true, false, cond}
+use mathlib.Core.List.{List, [], _∷_, map}
+use mathlib.Core.Option.{Option, none, some}
+use Prim.Native.Nat.{ℕ, zero, suc, _+_, _<_, _≤_, min}
+use native.Mathlib.Omega.{arith}
+use lib.Dec.{T, eqb, ltb}
+use borrow.Author.Tests.{le-ltb, lt-ltb}
+use lib.ListN.{length, getD}
+use Rattle.meaning.specs.Lists.{_∈_, total}
+use Rattle.meaning.specs.Expression.{Exp, size, star, Ordered}
+use Rattle.meaning.specs.Fit.{Tick, Verdict, ok, bad}
+use Rattle.meaning.specs.Positions as machine
+use Rattle.meaning.specs.Calls.{State, reply, after, repliesFrom}
+use Rattle.meaning.proofs.ListLaws.{clash}
+use Rattle.meaning.proofs.Calls.{same-replies}
+use Rattle.rules.specs.declared.Watch.{Watch}
+use Rattle.monitor.specs.Ticks.{Layout, layout, within, Move, stepWithin, stepOf, verdictOf}
+use Rattle.monitor.specs.Calls.{Moving, givenOf, layoutOf, stepFrom, judge, onward, stateOf, withState, replyOf, watchAfter, repliesOf}
+use Rattle.monitor.proofs.Moves.{MarksAll}
+use Rattle.monitor.proofs.Watching.{Steps}
+
+-- ---- calls on any watch
+
+pub replies-by : (v : Watch) (s : State Moving) (ws : List ℕ) → repliesOf (withState v s) ws ≡ repliesFrom (judge v) (onward v) (v .wires) s ws
+unfolding repliesOf repliesFrom replyOf watchAfter
+replies-by v s [] = refl
+replies-by v s (w ∷ ws) =
+    ap (λ rs. reply (judge v) (v .wires) s w ∷ rs) (replies-by v (after (onward v) s w (reply (judge v) (v .wires) s w)) ws)
+
+-- ---- calls on a watch whose steps are those of the meaning's machine
+
+-- the marks are the positions, and the store values stand as they do in a watch
+pub record Like (ms : List Exp) (pad : List ℕ → List ℕ) (stores : ℕ) (s : Moving) (m : machine.Watch) : Type 0 where
+  pub marks : MarksAll (s .marks) 0 0 ms (m .positions)
+  pub values : s .values ≡ pad (m .stores)
+  pub long : length (m .stores) ≡ stores
+
+-- a verdict by the monitor reached
+told-by : (ms : List Exp) (t : Tick) (σ : List ℕ) (pad : List ℕ → List ℕ) (stores : ℕ) (a : machine.Ticked) (z : Move) → Steps ms t σ pad stores a z
+    → cond (ltb (z .monitor) (length ms)) (bad (z .monitor)) ok ≡ machine.told a
+told-by ms t σ pad stores (machine.fine nss) z h =
+    let e = h .goes nss refl .0 in
+    ap (λ (b : Bool). cond b (bad (z .monitor)) ok) (le-ltb (z .monitor) (length ms) (omega (arith, e)))
+told-by ms t σ pad stores (machine.wrong j) z h =
+    let (e, l) = h .stands j refl in
+    ap (λ (b : Bool). cond b (bad (z .monitor)) ok) (lt-ltb (z .monitor) (length ms) (omega (arith, e, l))) ∙ ap bad e
+
+module _ (ms : List Exp) (pad : List ℕ → List ℕ) (stores : ℕ) (v : Watch) (monitors : v .monitors ≡ length ms) (few-monitors : length ms ≤ 32) (few-letters : v .letters ≤ 256)
+    (steps : (s : Moving) (m : machine.Watch) → Like ms pad stores s m → (w : ℕ)
+    → Steps ms (machine.seen m w) (m .stores) pad stores (machine.ticked ms m w) (stepWithin (givenOf v (s .values) w) (layoutOf v) (s .marks))) where
+  -- no number is too large
+  all-within : within (layoutOf v) ≡ layoutOf v
+  all-within =
+      let a : min (v .monitors) 32 ≡ v .monitors = omega (arith, monitors, few-monitors) in
+      let b : min (v .letters) 256 ≡ v .letters = omega (arith, few-letters) in
+      ap₂ (layout (v .places) (v .own) (v .firsts)) a b
+
+  steps-within : (s : Moving) (m : machine.Watch) → Like ms pad stores s m → (w : ℕ) → Steps ms (machine.seen m w) (m .stores) pad stores (machine.ticked ms m w) (stepFrom v s w)
+  steps-within s m l w =
+      subst (λ (y : Layout). Steps ms (machine.seen m w) (m .stores) pad stores (machine.ticked ms m w) (stepWithin (givenOf v (s .values) w) y (s .marks))) (sym all-within) (steps s m l w)
+
+  same-judgment : (s : Moving) (m : machine.Watch) → Like ms pad stores s m → (w : ℕ) → judge v s w ≡ machine.answer ms m w
+  same-judgment s m l w =
+      ap (λ (n : ℕ). cond (ltb (stepFrom v s w .monitor) n) (bad (stepFrom v s w .monitor)) ok) (ap (λ (y : Layout). y .monitors) all-within ∙ monitors)
+      ∙ told-by ms (machine.seen m w) (m .stores) pad stores (machine.ticked ms m w) (stepFrom v s w) (steps-within s m l w)
+
+  same-move : (s : Moving) (m : machine.Watch) → Like ms pad stores s m → (w : ℕ) → machine.answer ms m w ≡ ok → Like ms pad stores (onward v s w) (machine.moved ms m w)
+  same-move s m l w e = by (machine.ticked ms m w) (steps-within s m l w) e
+    where
+      by : (a : machine.Ticked) → Steps ms (machine.seen m w) (m .stores) pad stores a (stepFrom v s w) → machine.told a ≡ ok → Like ms pad stores (onward v s w) (machine.movedBy ms m w a)
+      by (machine.fine nss) h e = let (a, b, c, d) = h .goes nss refl in record { marks = b; values = c; long = d }
+      by (machine.wrong j) h e = clash (cc e)
+
+  pub machine-replies : (s : State Moving) (m : machine.Watch) → Like ms pad stores (s .inner) m → (ws : List ℕ)
+      → repliesOf (withState v s) ws ≡ repliesFrom (machine.answer ms) (machine.moved ms) (v .wires) (record { inner = m; oks = s .oks; stopped = s .stopped }) ws
+  machine-replies s m l ws =
+      replies-by v s ws
+      ∙ same-replies (judge v) (onward v) (machine.answer ms) (machine.moved ms) (Like ms pad stores) same-judgment same-move (v .wires) ws (s .inner) m (s .oks) (s .stopped) l

@@ -1,0 +1,286 @@
+-- A tick, by the code's loops and branches. Assumes nothing.
+use mathlib.Core.Path.{_≡_, refl, sym, _∙_, ap, ap₂}
+use mathlib.Core.Bool.{Bool, true, false, not, cond}
+use mathlib.Core.List.{List, [], _∷_}
+use Prim.Native.Nat.{ℕ, suc, _+_, _-_, _/_, _^_, _<_, _≤_, min}
+use native.Mathlib.Omega.{arith}
+use native.Mathlib.Nat.{div-lt-iff-lt-mul, div-eq-of-lt}
+use borrow.Author.Tests.{eq-eqb, ne-eqb, lt-ltb, le-ltb, lt-leb, le-leb, ltb-true, ltb-false, leb-true, leb-false}
+use lib.Dec.{eqb, leb, ltb}
+use lib.ListN.{getD, length, take, drop, replicate, set, length-set, getD-replicate, List·getD-eq-default}
+use lib.Pow.{pow-pos, pow-mono}
+use lib.Seq.{sets, getD-drop, getD-set-other, set-getD, take-all}
+use Rattle.meaning.specs.Fit.{ok as clean, bad as broken}
+use Rattle.meaning.specs.Calls.{Reply, refused, isStray, isFull, reply, after, replyOf as verdictReply}
+use Rattle.rules.proofs.Starting.{values-more}
+use Rattle.monitor.specs.Letters.{Given, writeLetter}
+use Rattle.monitor.specs.Walk.{Told, told, andThen, askM, leaveM}
+use Rattle.monitor.specs.Ticks.{steps, Layout, layout, letterGoes, lettersGo, startGoes, lettersEnd, monitorGoes, Reached, reached, reachedBy, monitorsGo, marksAfter, writeIf, writeMarked, Move, move, emptyMemory, moveBy, stepWithin, verdictOf}
+use Rattle.rules.specs.declared.Watch.{Watch}
+use Rattle.monitor.specs.Calls.{withState, refusedBy, stateOf, judge, onward, stepFrom, layoutOf, replyOf, watchAfter}
+use Rattle.monitor.specs.Shown.{answerOf}
+use Rattle.monitor.specs.declared.Answer.the-variants.{Ok, Bad, Refused}
+use Rattle.monitor.proofs.LetterSteps.{taken, left}
+
+-- ---- what a good tick leaves
+
+-- what is stored before an index leaves it
+unstored : (vs L : List ℕ) (j i : ℕ) → j + length vs ≤ i → getD (sets L j vs) i 0 ≡ getD L i 0
+unstored [] L j i h = refl
+unstored (x ∷ vs) L j i h = unstored vs (set L j x) (suc j) i (omega arith) ∙ getD-set-other L j i x 0 (λ (e : i ≡ j). omega arith)
+
+-- one more letter's mark; past the memory's end that is 0, as the new marks are
+mark-more : (M : List ℕ) (i : ℕ) → i < 288 → set (marksAfter i M) i (getD M (2048 + i) 0) ≡ marksAfter (i + 1) M
+mark-more M i l = ap (λ (x : ℕ). set (marksAfter i M) i x) (sym (getD-drop 2048 M i 0)) ∙ by (drop 2048 M) (ltb i (length (drop 2048 M))) refl
+  where
+    by : (W : List ℕ) (b : Bool) → ltb i (length W) ≡ b → set (sets (replicate 288 0) 0 (take i W)) i (getD W i 0) ≡ sets (replicate 288 0) 0 (take (i + 1) W)
+    by W true e = values-more (replicate 288 0) W i (ltb-true i (length W) e)
+    by W false e =
+        let h = ltb-false i (length W) e in
+        let z : getD (sets (replicate 288 0) 0 W) i 0 ≡ 0 = unstored W (replicate 288 0) 0 i (omega (arith, h)) ∙ getD-replicate 288 i 0 0 l in
+        ap₂ (λ (s : List ℕ) (x : ℕ). set (sets (replicate 288 0) 0 s) i x) (take-all i W h) (List·getD-eq-default W 0 {n = i} h ∙ sym z)
+        ∙ set-getD (sets (replicate 288 0) 0 W) i 0 ∙ ap (sets (replicate 288 0) 0) (sym (take-all (i + 1) W (omega (arith, h))))
+
+pub marks-next : (M K : List ℕ) (i n : ℕ) → n ≤ 256 → i < n → length K ≡ 288 → K ≡ marksAfter i M
+    → (i + 1 ≤ n) × (length (set K i (getD M (2048 + i) 0)) ≡ 288) × (set K i (getD M (2048 + i) 0) ≡ marksAfter (i + 1) M)
+marks-next M K i n l j s e =
+    (omega arith, length-set K i (getD M (2048 + i) 0) ∙ s, ap (λ (u : List ℕ). set u i (getD M (2048 + i) 0)) e ∙ mark-more M i (omega arith))
+
+pub marks-end : (M K : List ℕ) (i n : ℕ) → K ≡ marksAfter i M → i ≡ n → K ≡ marksAfter n M
+marks-end M K i n e q = e ∙ ap (λ (m : ℕ). marksAfter m M) q
+
+pub not-written : (g : Given) (K : List ℕ) (l : ℕ) (σ : List ℕ) → getD K l 0 ≡ 0 → σ ≡ writeIf g K l σ
+not-written g K l σ z = sym (taken (eqb (getD K l 0) 0) σ _ (eq-eqb (getD K l 0) 0 z))
+
+pub written : (g : Given) (K : List ℕ) (l : ℕ) (σ τ : List ℕ) → (getD K l 0 ≡ 0 → ⊥) → τ ≡ writeLetter g l σ → τ ≡ writeIf g K l σ
+written g K l σ τ z e = e ∙ sym (left (eqb (getD K l 0) 0) σ _ (ne-eqb (getD K l 0) 0 z))
+
+pub none-written : (g : Given) (K : List ℕ) (n : ℕ) (σ : List ℕ) → writeMarked g K n 0 σ ≡ writeMarked g K (n - 0) 0 σ
+none-written g K n σ = let d : n ≡ n - 0 = omega arith in ap (λ (m : ℕ). writeMarked g K m 0 σ) d
+
+pub written-more : (g : Given) (K : List ℕ) (n i : ℕ) (σ τ : List ℕ) → i < n → τ ≡ writeIf g K i σ
+    → writeMarked g K (n - i) i σ ≡ writeMarked g K (n - (i + 1)) (i + 1) τ
+unfolding writeMarked
+written-more g K n i σ τ l e =
+    let d : n - i ≡ suc (n - (i + 1)) = omega arith in
+    let s : suc i ≡ i + 1 = omega arith in
+    ap (λ (m : ℕ). writeMarked g K m i σ) d ∙ ap₂ (λ (j : ℕ) (υ : List ℕ). writeMarked g K (n - (i + 1)) j υ) s (sym e)
+
+pub written-all : (g : Given) (K : List ℕ) (n i : ℕ) (σ τ : List ℕ) → n ≤ i → writeMarked g K n 0 σ ≡ writeMarked g K (n - i) i τ → τ ≡ writeMarked g K n 0 σ
+unfolding writeMarked
+written-all g K n i σ τ l e =
+    let d : n - i ≡ 0 = omega arith in
+    sym (e ∙ ap (λ (m : ℕ). writeMarked g K m i τ) d)
+
+-- ---- active positions go on
+
+-- a mark that is not there
+pub letter-stays : (g : Given) (P K : List ℕ) (l : ℕ) (M : List ℕ) → getD K l 0 ≡ 0 → told true M ≡ letterGoes g P K l M
+letter-stays g P K l M z = sym (taken (eqb (getD K l 0) 0) (told true M) _ (eq-eqb (getD K l 0) 0 z))
+
+pub letter-left : (g : Given) (P K : List ℕ) (l r : ℕ) (M : List ℕ) (t : Told) → (getD K l 0 ≡ 0 → ⊥) → r ≡ getD P l 0 → t ≡ leaveM steps g r true M
+    → t ≡ letterGoes g P K l M
+letter-left g P K l r M t z d e =
+    e ∙ ap (λ (n : ℕ). leaveM steps g n true M) d ∙ sym (left (eqb (getD K l 0) 0) (told true M) _ (ne-eqb (getD K l 0) 0 z))
+
+pub start-stays : (g : Given) (O K : List ℕ) (i : ℕ) (M : List ℕ) → getD K (256 + i) 0 ≡ 0 → told true M ≡ startGoes g O K i M
+start-stays g O K i M z = sym (taken (eqb (getD K (256 + i) 0) 0) (told true M) _ (eq-eqb (getD K (256 + i) 0) 0 z))
+
+pub start-asked : (g : Given) (O K : List ℕ) (i r : ℕ) (M : List ℕ) (t : Told) → (getD K (256 + i) 0 ≡ 0 → ⊥) → r ≡ getD O i 0 → t ≡ askM steps g r true M
+    → t ≡ startGoes g O K i M
+start-asked g O K i r M t z d e =
+    e ∙ ap (λ (n : ℕ). askM steps g n true M) d ∙ sym (left (eqb (getD K (256 + i) 0) 0) (told true M) _ (ne-eqb (getD K (256 + i) 0) 0 z))
+
+-- one told, and then the rest
+told-yes : (t : Told) (b : Bool) (M : List ℕ) (f : List ℕ → Told) → told b M ≡ t → b ≡ true → andThen t f ≡ f M
+told-yes t b M f e y = ap (λ (s : Told). andThen s f) (sym e) ∙ taken b (f M) (told b M) y
+
+told-no : (t : Told) (b : Bool) (M : List ℕ) (f : List ℕ → Told) → told b M ≡ t → b ≡ false → andThen t f ≡ told false M
+told-no t b M f e y = ap (λ (s : Told). andThen s f) (sym e) ∙ left b (f M) (told b M) y ∙ ap (λ (c : Bool). told c M) y
+
+module _ (g : Given) (P K : List ℕ) (to i : ℕ) (M : List ℕ) where
+  pub letters-more : (b : Bool) (N : List ℕ) → i < to → told b N ≡ letterGoes g P K i M → b ≡ true
+      → lettersGo g P K (to - i) i M ≡ lettersGo g P K (to - (i + 1)) (i + 1) N
+  unfolding lettersGo
+  letters-more b N l e y =
+      let d : to - i ≡ suc (to - (i + 1)) = omega arith in
+      let s : suc i ≡ i + 1 = omega arith in
+      ap (λ (m : ℕ). lettersGo g P K m i M) d ∙ told-yes (letterGoes g P K i M) b N (lettersGo g P K (to - (i + 1)) (suc i)) e y ∙ ap (λ (j : ℕ). lettersGo g P K (to - (i + 1)) j N) s
+
+  pub letters-stop : (b : Bool) (N : List ℕ) (t : Told) → i < to → told b N ≡ letterGoes g P K i M → b ≡ false
+      → t ≡ lettersGo g P K (to - i) i M → told false N ≡ t
+  unfolding lettersGo
+  letters-stop b N t l e y inv =
+      let d : to - i ≡ suc (to - (i + 1)) = omega arith in
+      sym (inv ∙ ap (λ (m : ℕ). lettersGo g P K m i M) d ∙ told-no (letterGoes g P K i M) b N (lettersGo g P K (to - (i + 1)) (suc i)) e y)
+
+  pub letters-all : (t : Told) → to ≤ i → t ≡ lettersGo g P K (to - i) i M → told true M ≡ t
+  unfolding lettersGo
+  letters-all t l inv =
+      let d : to - i ≡ 0 = omega arith in
+      sym (inv ∙ ap (λ (m : ℕ). lettersGo g P K m i M) d)
+
+-- where a monitor's letters end
+pub ends-before : (F : List ℕ) (m l i r x : ℕ) → i + 1 < m → x ≡ getD F (i + 1) 0 → r ≡ min x 256 → (r ≡ lettersEnd F m l i) × (r ≤ 256)
+ends-before F m l i r x h d e =
+    let s : i + 1 ≡ suc i = omega arith in
+    (e ∙ ap (λ (n : ℕ). min n 256) (d ∙ ap (λ (j : ℕ). getD F j 0) s) ∙ sym (taken (ltb (suc i) m) (min (getD F (suc i) 0) 256) l (lt-ltb (suc i) m (omega arith))), omega (arith, e))
+
+pub ends-last : (F : List ℕ) (m l i : ℕ) → m ≤ i + 1 → l ≤ 256 → (l ≡ lettersEnd F m l i) × (l ≤ 256)
+ends-last F m l i h k = (sym (left (ltb (suc i) m) (min (getD F (suc i) 0) 256) l (le-ltb (suc i) m (omega arith))), k)
+
+module _ (g : Given) (y : Layout) (K : List ℕ) (i : ℕ) (M : List ℕ) where
+  abbrev then-letters : List ℕ → Told
+  then-letters = lettersGo g (y .places) K (lettersEnd (y .firsts) (y .monitors) (y .letters) i - getD (y .firsts) i 0) (getD (y .firsts) i 0)
+
+  pub monitor-stops : (b : Bool) (N : List ℕ) → told b N ≡ startGoes g (y .own) K i M → b ≡ false → told false N ≡ monitorGoes g y K i M
+  unfolding monitorGoes
+  monitor-stops b N e f = sym (told-no (startGoes g (y .own) K i M) b N then-letters e f)
+
+  pub monitor-on : (b : Bool) (N : List ℕ) (t : Told) (from to : ℕ) → told b N ≡ startGoes g (y .own) K i M → b ≡ true
+      → from ≡ getD (y .firsts) i 0 → to ≡ lettersEnd (y .firsts) (y .monitors) (y .letters) i → t ≡ lettersGo g (y .places) K (to - from) from N → t ≡ monitorGoes g y K i M
+  unfolding monitorGoes
+  monitor-on b N t from to e f p q h =
+      h ∙ ap₂ (λ (u v : ℕ). lettersGo g (y .places) K (v - u) u N) p q ∙ sym (told-yes (startGoes g (y .own) K i M) b N then-letters e f)
+
+  reached-yes : (t : Told) (b : Bool) (N : List ℕ) (f : List ℕ → Reached) → told b N ≡ t → b ≡ true → reachedBy i t f ≡ f N
+  reached-yes t b N f e h = ap (λ (s : Told). reachedBy i s f) (sym e) ∙ taken b (f N) (reached i N) h
+
+  reached-no : (t : Told) (b : Bool) (N : List ℕ) (f : List ℕ → Reached) → told b N ≡ t → b ≡ false → reachedBy i t f ≡ reached i N
+  reached-no t b N f e h = ap (λ (s : Told). reachedBy i s f) (sym e) ∙ left b (f N) (reached i N) h
+
+  pub monitors-more : (n : ℕ) (b : Bool) (N : List ℕ) → i < n → told b N ≡ monitorGoes g y K i M → b ≡ true
+      → monitorsGo g y K (n - i) i M ≡ monitorsGo g y K (n - (i + 1)) (i + 1) N
+  unfolding monitorsGo
+  monitors-more n b N l e h =
+      let d : n - i ≡ suc (n - (i + 1)) = omega arith in
+      let s : suc i ≡ i + 1 = omega arith in
+      ap (λ (m : ℕ). monitorsGo g y K m i M) d ∙ reached-yes (monitorGoes g y K i M) b N (monitorsGo g y K (n - (i + 1)) (suc i)) e h ∙ ap (λ (j : ℕ). monitorsGo g y K (n - (i + 1)) j N) s
+
+  pub monitors-stop : (n : ℕ) (b : Bool) (N : List ℕ) (t : Reached) → i < n → told b N ≡ monitorGoes g y K i M → b ≡ false
+      → t ≡ monitorsGo g y K (n - i) i M → reached i N ≡ t
+  unfolding monitorsGo
+  monitors-stop n b N t l e h inv =
+      let d : n - i ≡ suc (n - (i + 1)) = omega arith in
+      sym (inv ∙ ap (λ (m : ℕ). monitorsGo g y K m i M) d ∙ reached-no (monitorGoes g y K i M) b N (monitorsGo g y K (n - (i + 1)) (suc i)) e h)
+
+  pub monitors-all : (n : ℕ) (t : Reached) → n ≤ i → t ≡ monitorsGo g y K (n - i) i M → reached i M ≡ t
+  unfolding monitorsGo
+  monitors-all n t l inv =
+      let d : n - i ≡ 0 = omega arith in
+      sym (inv ∙ ap (λ (m : ℕ). monitorsGo g y K m i M) d)
+
+pub no-monitor : (g : Given) (y : Layout) (K : List ℕ) (n : ℕ) (M : List ℕ) → monitorsGo g y K n 0 M ≡ monitorsGo g y K (n - 0) 0 M
+no-monitor g y K n M = let d : n ≡ n - 0 = omega arith in ap (λ (m : ℕ). monitorsGo g y K m 0 M) d
+
+-- ---- one tick
+
+module _ (g : Given) (p o f : List ℕ) (m l m′ l′ : ℕ) (K : List ℕ) (i : ℕ) (M : List ℕ) (e : m′ ≡ min m 32) (d : l′ ≡ min l 256)
+    (r : reached i M ≡ monitorsGo g (layout p o f m′ l′) K m′ 0 emptyMemory) where
+  step-any : moveBy g (layout p o f m′ l′) K (reached i M) ≡ stepWithin g (layout p o f (min m 32) (min l 256)) K
+  unfolding stepWithin
+  step-any = ap (moveBy g (layout p o f m′ l′) K) r ∙ ap₂ (λ (a b : ℕ). stepWithin g (layout p o f a b) K) e d
+
+  pub step-stops : i < m′ → move i K (g .values) ≡ stepWithin g (layout p o f (min m 32) (min l 256)) K
+  step-stops h = sym (taken (ltb i m′) (move i K (g .values)) _ (lt-ltb i m′ h)) ∙ step-any
+
+  pub step-moves : m′ ≤ i → (N σ : List ℕ) → N ≡ marksAfter l′ M → σ ≡ writeMarked g N l′ 0 (g .values)
+      → move i N σ ≡ stepWithin g (layout p o f (min m 32) (min l 256)) K
+  step-moves h N σ a b =
+      ap₂ (λ (s t : List ℕ). move i s t) a (b ∙ ap (λ (s : List ℕ). writeMarked g s l′ 0 (g .values)) a)
+      ∙ sym (left (ltb i m′) (move i K (g .values)) _ (le-ltb i m′ h)) ∙ step-any
+
+-- ---- refusals
+
+pub no-stray : (k w : ℕ) → w < 2 ^ 64 → 64 ≤ k → false ≡ isStray k w
+no-stray k w h l = sym (lt-leb (2 ^ k) w (let p = pow-mono {i = 64} {j = k} l in omega (arith, p, h)))
+
+pub stray-bit : (k w : ℕ) → not (eqb (w / 2 ^ k) 0) ≡ isStray k w
+stray-bit k w = by (leb (2 ^ k) w) refl
+  where
+    small : w / 2 ^ k ≡ 0 → w < 2 ^ k
+    small z = let q = div-lt-iff-lt-mul {k = 2 ^ k} {x = w} {y = 1} (pow-pos k) .0 (omega (arith, z)) in omega (arith, q)
+
+    by : (b : Bool) → leb (2 ^ k) w ≡ b → not (eqb (w / 2 ^ k) 0) ≡ b
+    by true e = ap not (ne-eqb (w / 2 ^ k) 0 (λ (z : w / 2 ^ k ≡ 0). let s = small z in let t = leb-true (2 ^ k) w e in omega (arith, s, t)))
+    by false e = ap not (eq-eqb (w / 2 ^ k) 0 (div-eq-of-lt (leb-false (2 ^ k) w e)))
+
+module _ (b : Bool) (n k w : ℕ) (f : b ≡ false) where
+  pub is-full : 1000000 ≤ n → 17 ≡ refusedBy b n k w
+  is-full h = sym (left b 16 _ f ∙ taken (isFull n) 17 _ (le-leb 1000000 n h))
+
+  pub is-stray : n < 1000000 → (s : Bool) → s ≡ isStray k w → s ≡ true → 15 ≡ refusedBy b n k w
+  is-stray h s e d = sym (left b 16 _ f ∙ left (isFull n) 17 _ (lt-leb 1000000 n h) ∙ taken (isStray k w) 15 0 (sym e ∙ d))
+
+  pub is-taken : n < 1000000 → (s : Bool) → s ≡ isStray k w → s ≡ false → 0 ≡ refusedBy b n k w
+  is-taken h s e d = sym (left b 16 _ f ∙ left (isFull n) 17 _ (lt-leb 1000000 n h) ∙ left (isStray k w) 15 0 (sym e ∙ d))
+
+-- ---- the watch after a call
+
+pub one-tick : (v : Watch) (K σ : List ℕ)
+    → withState v (record { inner = record { marks = K; values = σ }; oks = v .ticks + 1; stopped = v .stopped })
+    ≡ withState v (record { inner = record { marks = K; values = σ }; oks = suc (v .ticks); stopped = v .stopped })
+one-tick v K σ =
+    let e : v .ticks + 1 ≡ suc (v .ticks) = omega arith in
+    ap (λ (n : ℕ). withState v (record { inner = record { marks = K; values = σ }; oks = n; stopped = v .stopped })) e
+
+-- ---- calls
+
+module _ (v : Watch) (w n : ℕ) (e : n ≡ refusedBy (v .stopped) (v .ticks) (v .wires) w) where
+  reply-refused : (n ≡ 0 → ⊥) → replyOf v w ≡ refused n
+  unfolding replyOf reply
+  reply-refused z = by (v .stopped) (isFull (v .ticks)) (isStray (v .wires) w) e
+    where
+      by : (a b d : Bool) → n ≡ cond a 16 (cond b 17 (cond d 15 0))
+          → cond a (refused 16) (cond b (refused 17) (cond d (refused 15) (verdictReply (judge v (stateOf v .inner) w)))) ≡ refused n
+      by true b d h = ap refused (sym h)
+      by false true d h = ap refused (sym h)
+      by false false true h = ap refused (sym h)
+      by false false false h = absurd (z h)
+
+  -- a refusal changes no watch
+  pub call-refused : (n ≡ 0 → ⊥) → (Refused n ≡ answerOf (replyOf v w)) × (v ≡ watchAfter v w)
+  unfolding watchAfter
+  call-refused z =
+      let h = sym (reply-refused z) in
+      (ap answerOf h, ap (λ (r : Reply). withState v (after (onward v) (stateOf v) w r)) h)
+
+  pub few-ticks : n ≡ 0 → v .ticks < 1000000
+  few-ticks z = by (v .stopped) (isFull (v .ticks)) refl (isStray (v .wires) w) e
+    where
+      by : (a b : Bool) → isFull (v .ticks) ≡ b → (d : Bool) → n ≡ cond a 16 (cond b 17 (cond d 15 0)) → v .ticks < 1000000
+      by true b f d h = omega (arith, h, z)
+      by false true f d h = omega (arith, h, z)
+      by false false f d h = leb-false 1000000 (v .ticks) f
+
+  reply-judged : n ≡ 0 → replyOf v w ≡ verdictReply (judge v (stateOf v .inner) w)
+  unfolding replyOf reply
+  reply-judged z = by (v .stopped) (isFull (v .ticks)) (isStray (v .wires) w) e
+    where
+      by : (a b d : Bool) → n ≡ cond a 16 (cond b 17 (cond d 15 0))
+          → cond a (refused 16) (cond b (refused 17) (cond d (refused 15) (verdictReply (judge v (stateOf v .inner) w)))) ≡ verdictReply (judge v (stateOf v .inner) w)
+      by true b d h = absurd (let q : 16 ≡ 0 = sym h ∙ z in omega (arith, q))
+      by false true d h = absurd (let q : 17 ≡ 0 = sym h ∙ z in omega (arith, q))
+      by false false true h = absurd (let q : 15 ≡ 0 = sym h ∙ z in omega (arith, q))
+      by false false false h = refl
+
+  module _ (z : n ≡ 0) (i m : ℕ) (K σ : List ℕ) (s : move i K σ ≡ stepFrom v (stateOf v .inner) w) (l : m ≡ min (v .monitors) 32) (u : Watch) where
+    reply-moved : replyOf v w ≡ verdictReply (cond (ltb i (min (v .monitors) 32)) (broken i) clean)
+    reply-moved = reply-judged z ∙ ap (λ (a : Move). verdictReply (verdictOf (layoutOf v) a)) (sym s)
+
+    pub call-bad : i < m → u ≡ withState v (record { inner = stateOf v .inner; oks = v .ticks; stopped = true })
+        → (Bad i ≡ answerOf (replyOf v w)) × (u ≡ watchAfter v w)
+    unfolding watchAfter
+    call-bad h q =
+        let r = sym (reply-moved ∙ ap verdictReply (taken (ltb i (min (v .monitors) 32)) (broken i) clean (lt-ltb i (min (v .monitors) 32) (omega (arith, l))))) in
+        (ap answerOf r, q ∙ ap (λ (t : Reply). withState v (after (onward v) (stateOf v) w t)) r)
+
+    pub call-ok : m ≤ i → u ≡ withState v (record { inner = record { marks = K; values = σ }; oks = suc (v .ticks); stopped = v .stopped })
+        → (Ok ≡ answerOf (replyOf v w)) × (u ≡ watchAfter v w)
+    unfolding watchAfter
+    call-ok h q =
+        let r = sym (reply-moved ∙ ap verdictReply (left (ltb i (min (v .monitors) 32)) (broken i) clean (le-ltb i (min (v .monitors) 32) (omega (arith, l))))) in (
+          ap answerOf r,
+          q ∙ ap (λ (a : Move). withState v (record { inner = record { marks = a .marks; values = a .values }; oks = suc (v .ticks); stopped = v .stopped })) s
+              ∙ ap (λ (t : Reply). withState v (after (onward v) (stateOf v) w t)) r,
+        )

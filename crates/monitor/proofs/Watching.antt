@@ -1,0 +1,144 @@
+-- One tick of a watch is one tick of the meaning's machine: the same verdict, and the same positions and store values after it. Assumes nothing.
+use mathlib.Core.Path.{_≡_, refl, sym, ap, ap₂, _∙_, subst}
+use mathlib.Core.Bool.{Bool, true, false, not, cond}
+use mathlib.Core.List.{List, [], _∷_, _++_}
+use mathlib.Core.Option.{Option, none, some}
+use mathlib.Core.Logic.{_⊎_, inl, inr, ⊎-elim}
+use Prim.Native.Nat.{ℕ, zero, suc, _+_, _*_, _-_, _<_, _≤_, min}
+use native.Mathlib.Omega.{arith}
+use lib.Dec.{T, eqb, ltb}
+use borrow.Author.Tests.{le-ltb, lt-ltb, eq-eqb, ne-eqb}
+use lib.ListN.{length, length-drop, getD, List·getD-append, take, drop, replicate, length-replicate}
+use lib.Seq.{sets, sets-eq, length-take-le, getD-take, getD-drop, getD-append-add}
+use Rattle.meaning.specs.Lists.{_∈_, total, member}
+use Rattle.meaning.specs.Expression.{Exp, size, Ordered}
+use Rattle.meaning.specs.Fit.{Tick, Verdict, ok, bad}
+use Rattle.meaning.specs.Positions.{Positions, go, Ticked, fine, wrong, goOn, withMore, goEach, told as verdictTold, keptEach, writeEach}
+use Rattle.meaning.proofs.ListLaws.{here, there, no-∈, clash}
+use Rattle.meaning.proofs.OneWay.{Has}
+use Rattle.meaning.proofs.Numbering.{between}
+use Rattle.meaning.proofs.Sets.{go-inside}
+use Rattle.monitor.specs.Letters.{Given}
+use Rattle.monitor.specs.Ticks.{Layout, marksAfter, writeMarked, Reached, Move, move, emptyMemory, moveBy, monitorsGo, stepWithin}
+use Rattle.monitor.proofs.Memory.{Marked}
+use Rattle.monitor.proofs.Going.{Exactly, AllGo, Went, monitors-go, spread}
+use Rattle.monitor.proofs.Moves.{AllInside, AllMarkedAs, all-marked, to-member, from-member, MarksAll, marks-all, AllWriteAs, writes-all}
+
+-- ---- the letters met are each monitor's own
+
+on-fine : (i : ℕ) (a : Option (List ℕ)) (b : Ticked) (nss : List (List ℕ)) → goOn i a b ≡ fine nss
+    → (ns : List ℕ) × (kss : List (List ℕ)) × (a ≡ some ns) × (b ≡ fine kss) × (nss ≡ ns ∷ kss)
+on-fine i none b nss e = clash (cc e)
+on-fine i (some ns) (wrong j) nss e = clash (cc e)
+on-fine i (some ns) (fine kss) nss e = (ns, kss, refl, refl, cc e)
+
+all-inside : (i l : ℕ) (K : List ℕ) (ms : List Exp) (xs : List Positions) (t : Tick) (nss : List (List ℕ)) → MarksAll K i l ms xs → ((m : Exp) → m ∈ ms → Ordered 0 m)
+    → goEach i ms xs t ≡ fine nss → AllInside ms nss
+unfolding MarksAll goEach AllInside
+all-inside i l K [] [] t [] h o e = tt
+all-inside i l K [] [] t (ns ∷ nss) h o e = clash (cc e)
+all-inside i l K [] (x ∷ xs) t nss h o e = absurd h
+all-inside i l K (m ∷ ms) [] t nss h o e = absurd h
+all-inside i l K (m ∷ ms) (x ∷ xs) t nss h o e =
+    let (ns, kss, p, q, s) = on-fine i (go m x t) (goEach (suc i) ms xs t) nss e in
+    subst (λ (z : List (List ℕ)). AllInside (m ∷ ms) z) (sym s) (
+      λ k j. let (d, u, v) = go-inside m x t ns p k j in let b = between 0 m (o m (here refl)) d u in omega (arith, b .1, v),
+      all-inside (suc i) (l + size m) K ms xs t kss (h .1) (λ z j. o z (there j)) q,
+    )
+
+-- ---- the marks after a tick
+
+pub zeros-at : (n k : ℕ) → _≡_ {A = ℕ} (getD (replicate n 0) k 0) 0
+zeros-at zero k = refl
+zeros-at (suc n) zero = refl
+zeros-at (suc n) (suc k) = zeros-at n k
+
+module _ (n : ℕ) (M : List ℕ) (few : n ≤ 256) (long : length M ≡ 2304) where
+  marked-long : length (take n (drop 2048 M)) ≡ n
+  marked-long = length-take-le n (drop 2048 M) (let d = length-drop 2048 M in omega (arith, d, long, few))
+
+  as-list : marksAfter n M ≡ take n (drop 2048 M) ++ drop n (replicate 288 0)
+  as-list =
+      let z = length-replicate {A = ℕ} 288 0 in
+      let l = marked-long in
+      let e : 0 + length (take n (drop 2048 M)) ≡ n = omega (arith, l) in
+      sets-eq (take n (drop 2048 M)) (replicate 288 0) 0 (omega (arith, l, z, few)) ∙ ap (λ (k : ℕ). take n (drop 2048 M) ++ drop k (replicate 288 0)) e
+
+  after-at : (k : ℕ) → k < n → getD (marksAfter n M) k 0 ≡ getD M (2048 + k) 0
+  after-at k c =
+      let l = marked-long in
+      ap (λ (z : List ℕ). getD z k 0) as-list ∙ List·getD-append (take n (drop 2048 M)) (drop n (replicate 288 0)) 0 k (omega (arith, l, c))
+      ∙ getD-take n (drop 2048 M) k 0 c ∙ getD-drop 2048 M k 0
+
+  after-beyond : (k : ℕ) → n ≤ k → getD (marksAfter n M) k 0 ≡ 0
+  after-beyond k c =
+      let l = marked-long in
+      let e : k ≡ length (take n (drop 2048 M)) + (k - n) = omega (arith, l, c) in
+      ap₂ (λ (z : List ℕ) (q : ℕ). getD z q 0) as-list e ∙ getD-append-add (take n (drop 2048 M)) (drop n (replicate 288 0)) (k - n) 0
+      ∙ getD-drop n (replicate 288 0) (k - n) 0 ∙ zeros-at 288 (n + (k - n))
+
+zero-or : (v : ℕ) → v ≤ 1 → (v ≡ 1 → ⊥) → v ≡ 0
+zero-or zero h f = refl
+zero-or (suc zero) h f = absurd (f refl)
+zero-or (suc (suc v)) h f = absurd (omega (arith, h))
+
+-- ---- a tick
+
+-- what a step comes to, by what the machine comes to
+pub record Steps (ms : List Exp) (t : Tick) (σ : List ℕ) (pad : List ℕ → List ℕ) (stores : ℕ) (a : Ticked) (z : Move) : Type 0 where
+  pub stands : (j : ℕ) → a ≡ wrong j → (z .monitor ≡ j) × (j < length ms)
+  pub goes : (nss : List (List ℕ)) → a ≡ fine nss
+      → (z .monitor ≡ length ms) × MarksAll (z .marks) 0 0 ms (keptEach ms nss) × (z .values ≡ pad (writeEach t ms nss σ)) × (length (writeEach t ms nss σ) ≡ stores)
+
+module _ (Good : List ℕ → Type 0) (long : (M : List ℕ) → Good M → length M ≡ 2304) (bits : (M : List ℕ) → Good M → (l : ℕ) → l < 256 → getD M (2048 + l) 0 ≤ 1)
+    (empty : Good emptyMemory) (g : Given) (t : Tick) (y : Layout) (K : List ℕ) (ms : List Exp) (ordered : (m : Exp) → m ∈ ms → Ordered 0 m)
+    (monitors : y .monitors ≡ length ms) (few-monitors : length ms ≤ 32) (letters : y .letters ≡ total size ms) (few-letters : total size ms ≤ 256) where
+  none-marked : (l : ℕ) → Marked emptyMemory l → ⊥
+  none-marked l m = omega (arith, m, zeros-at 2304 (2048 + l))
+
+  -- the marks in a memory, letter by letter
+  marked-if : (M ks : List ℕ) → Exactly Good emptyMemory ks M → (k : ℕ) → k < total size ms
+      → eqb (getD (marksAfter (total size ms) M) k 0) 0 ≡ not (member k ks)
+  marked-if M ks x k c = ap (λ (z : ℕ). eqb z 0) (after-at (total size ms) M few-letters (long M (x .good)) k c) ∙ by (member k ks) refl
+    where
+      by : (b : Bool) → member k ks ≡ b → eqb (getD M (2048 + k) 0) 0 ≡ not b
+      by true e = ne-eqb (getD M (2048 + k) 0) 0 (λ z. let p = x .adds k (from-member k ks (subst T (sym e) tt)) in absurd (omega (arith, p, z)))
+      by false e =
+          eq-eqb (getD M (2048 + k) 0) 0
+          (zero-or (getD M (2048 + k) 0) (bits M (x .good) k (omega (arith, c, few-letters)))
+          (λ p. ⊎-elim (λ q. none-marked k q) (λ q. subst T e (to-member k ks q)) (x .only k (omega (arith, c, few-letters)) p)))
+
+  module _ (xs : List Positions) (σ : List ℕ) (pad : List ℕ → List ℕ) (stores : ℕ) (marked : MarksAll K 0 0 ms xs) (long-values : length σ ≡ stores) (padded : g .values ≡ pad σ)
+      (go-all : AllGo Good g t y K 0 0 ms xs) (writes : (Q : List ℕ) → AllWriteAs g t Q pad stores 0 ms) where
+    went : Went Good g t y K 0 (length ms) 0 ms (goEach 0 ms xs t) emptyMemory (monitorsGo g y K (y .monitors) 0 emptyMemory)
+    went = subst (λ (c : ℕ). Went Good g t y K 0 (length ms) 0 ms (goEach 0 ms xs t) emptyMemory (monitorsGo g y K c 0 emptyMemory)) (sym monitors)
+        (monitors-go Good g t y K 0 0 ms xs go-all emptyMemory empty)
+
+    bad-step : (z : Reached) (j : ℕ) → Went Good g t y K 0 (length ms) 0 ms (wrong j) emptyMemory z → (moveBy g y K z .monitor ≡ j) × (j < length ms)
+    unfolding Went
+    bad-step z j (p, q) =
+        let b : ltb (z .monitor) (y .monitors) ≡ true = lt-ltb (z .monitor) (y .monitors) (omega (arith, p, q, monitors)) in (
+          ap (λ (c : Bool). cond c (move (z .monitor) K (g .values)) (move (z .monitor) (marksAfter (y .letters) (z .memory)) (writeMarked g (marksAfter (y .letters) (z .memory)) (y .letters) 0 (g .values))) .monitor) b ∙ p,
+          omega (arith, q),
+        )
+
+    good-step : (z : Reached) (nss : List (List ℕ)) → AllInside ms nss → Went Good g t y K 0 (length ms) 0 ms (fine nss) emptyMemory z
+        → (moveBy g y K z .monitor ≡ length ms) × MarksAll (moveBy g y K z .marks) 0 0 ms (keptEach ms nss) × (moveBy g y K z .values ≡ pad (writeEach t ms nss σ))
+        × (length (writeEach t ms nss σ) ≡ stores)
+    unfolding Went
+    good-step z nss inside (p, x, q) =
+        let b : ltb (z .monitor) (y .monitors) ≡ false = le-ltb (z .monitor) (y .monitors) (omega (arith, p, monitors)) in
+        let n = total size ms in
+        let Q = marksAfter n (z .memory) in
+        let a = all-marked Q n [] 0 ms nss inside (λ k i. absurd (no-∈ i)) (λ k c. marked-if (z .memory) (spread 0 ms nss) x k c) (omega arith) in
+        let m = marks-all Q 0 0 ms nss ordered (λ k u v. after-beyond n (z .memory) few-letters (long (z .memory) (x .good)) (256 + k) (omega (arith, few-letters))) a in
+        let w = writes-all g t Q pad stores 0 ms nss ordered a (writes Q) σ long-values in
+        rw (b, letters) (omega (arith, p), m, ap (writeMarked g Q n 0) padded ∙ w .0, w .1)
+
+    pub steps-right : Steps ms t σ pad stores (goEach 0 ms xs t) (stepWithin g y K)
+    unfolding stepWithin
+    steps-right = record {
+      stands = λ j e. bad-step (monitorsGo g y K (y .monitors) 0 emptyMemory) j (subst (λ (a : Ticked). Went Good g t y K 0 (length ms) 0 ms a emptyMemory (monitorsGo g y K (y .monitors) 0 emptyMemory)) e went);
+      goes = λ nss e. good-step (monitorsGo g y K (y .monitors) 0 emptyMemory) nss (all-inside 0 0 K ms xs t nss marked ordered e)
+          (subst (λ (a : Ticked). Went Good g t y K 0 (length ms) 0 ms a emptyMemory (monitorsGo g y K (y .monitors) 0 emptyMemory)) e went);
+    }

@@ -1,0 +1,73 @@
+-- A tick call on a watch, and a list of them: any watch, any words. Assumes nothing.
+use mathlib.Core.Bool.{Bool, cond}
+use mathlib.Core.List.{List, [], _∷_}
+use Prim.Native.Nat.{ℕ}
+use Rattle.meaning.specs.Fit.{Verdict}
+use Rattle.meaning.specs.Calls.{Reply, isFull, isStray, State, reply, after}
+use Rattle.rules.specs.declared.Watch.{Watch}
+use Rattle.monitor.specs.Letters.{Given, given}
+use Rattle.monitor.specs.Ticks.{Layout, layout, Move, stepOf, verdictOf}
+
+-- What moves from tick to tick: the marks and the store values.
+pub record Moving : Type 0 where
+  pub marks : List ℕ
+  pub values : List ℕ
+
+-- the rest of a watch
+abbrev pub givenOf : Watch → (values : List ℕ) → (word : ℕ) → Given
+givenOf v σ w = given (v .table) (v .look) (v .want) (v .links) (v .numbers) σ w
+
+abbrev pub layoutOf : Watch → Layout
+layoutOf v = layout (v .places) (v .own) (v .firsts) (v .monitors) (v .letters)
+
+abbrev pub stepFrom : Watch → Moving → ℕ → Move
+stepFrom v s w = stepOf (givenOf v (s .values) w) (layoutOf v) (s .marks)
+
+-- what is made of a word
+abbrev pub judge : Watch → Moving → ℕ → Verdict
+judge v s w = verdictOf (layoutOf v) (stepFrom v s w)
+
+abbrev pub onward : Watch → Moving → ℕ → Moving
+onward v s w = record { marks = stepFrom v s w .marks; values = stepFrom v s w .values }
+
+-- a watch's state between two calls
+abbrev pub stateOf : Watch → State Moving
+stateOf v = record { inner = record { marks = v .marks; values = v .values }; oks = v .ticks; stopped = v .stopped }
+
+abbrev pub withState : Watch → State Moving → Watch
+withState v s =
+    record {
+      table = v .table;
+      look = v .look;
+      want = v .want;
+      links = v .links;
+      numbers = v .numbers;
+      places = v .places;
+      own = v .own;
+      firsts = v .firsts;
+      rows = v .rows;
+      letters = v .letters;
+      monitors = v .monitors;
+      wires = v .wires;
+      stores = v .stores;
+      values = s .inner .values;
+      marks = s .inner .marks;
+      ticks = s .oks;
+      stopped = s .stopped;
+    }
+
+-- A call's reply, and the watch after it: 16, 17, 15 and the verdict as `meaning` has them, by what the watch makes of the word.
+unfoldable pub replyOf : Watch → ℕ → Reply
+replyOf v w = reply (judge v) (v .wires) (stateOf v) w
+
+unfoldable pub watchAfter : Watch → ℕ → Watch
+watchAfter v w = withState v (after (onward v) (stateOf v) w (replyOf v w))
+
+-- 01's number of a refused call, or 0
+abbrev pub refusedBy : (stopped : Bool) → (oks wires word : ℕ) → ℕ
+refusedBy b n wires w = cond b 16 (cond (isFull n) 17 (cond (isStray wires w) 15 0))
+
+-- the replies to a list of calls: "Each call gets the watch that the call before it returned or left"
+unfoldable pub repliesOf : Watch → List ℕ → List Reply
+repliesOf v [] = []
+repliesOf v (w ∷ ws) = replyOf v w ∷ repliesOf (watchAfter v w) ws

@@ -1,0 +1,114 @@
+-- A tick, from a watch and a word to the answer and the new watch; over any watch. Assumes nothing.
+use mathlib.Core.Bool.{true, cond}
+use mathlib.Core.List.{List}
+use Prim.Native.Nat.{ℕ, zero, suc, _+_, _-_, min}
+use lib.Dec.{eqb, ltb}
+use lib.ListN.{getD, take, drop, replicate}
+use lib.Seq.{sets}
+use Rattle.meaning.specs.Fit.{Verdict, ok, bad}
+use Rattle.monitor.specs.Letters.{Given, writeLetter}
+use Rattle.monitor.specs.Walk.{Told, told, andThen, askM, leaveM}
+
+-- 4 calls for each row are enough
+abbrev pub steps : ℕ
+steps = 4096
+
+-- What a watch has beside what a tick is judged by: each letter's row; each monitor's own row and first letter; how many monitors and letters there are.
+pub record Layout : Type 0 where
+  pub places : List ℕ
+  pub own : List ℕ
+  pub firsts : List ℕ
+  pub monitors : ℕ
+  pub letters : ℕ
+
+abbrev pub layout : (places own firsts : List ℕ) → (monitors letters : ℕ) → Layout
+layout p o f m l = record { places = p; own = o; firsts = f; monitors = m; letters = l }
+
+-- with no more monitors and letters than there is room for
+abbrev pub within : Layout → Layout
+within y = layout (y .places) (y .own) (y .firsts) (min (y .monitors) 32) (min (y .letters) 256)
+
+-- ---- every active position goes on
+
+-- letter l is left, if it is marked
+abbrev pub letterGoes : Given → (places marks : List ℕ) → (l : ℕ) → List ℕ → Told
+letterGoes g places marks l M = cond (eqb (getD marks l 0) 0) (told true M) (leaveM steps g (getD places l 0) true M)
+
+-- n letters from l on
+unfoldable pub lettersGo : Given → (places marks : List ℕ) → (n l : ℕ) → List ℕ → Told
+lettersGo g places marks zero l M = told true M
+lettersGo g places marks (suc n) l M = andThen (letterGoes g places marks l M) (lettersGo g places marks n (suc l))
+
+-- monitor i is asked, if it is at its start
+abbrev pub startGoes : Given → (own marks : List ℕ) → (i : ℕ) → List ℕ → Told
+startGoes g own marks i M = cond (eqb (getD marks (256 + i) 0) 0) (told true M) (askM steps g (getD own i 0) true M)
+
+-- its letters are those from its own first up to the next monitor's
+abbrev pub lettersEnd : (firsts : List ℕ) → (monitors letters i : ℕ) → ℕ
+lettersEnd firsts m l i = cond (ltb (suc i) m) (min (getD firsts (suc i) 0) 256) l
+
+unfoldable pub monitorGoes : Given → Layout → (marks : List ℕ) → (i : ℕ) → List ℕ → Told
+monitorGoes g y marks i M =
+    andThen (startGoes g (y .own) marks i M)
+    (lettersGo g (y .places) marks (lettersEnd (y .firsts) (y .monitors) (y .letters) i - getD (y .firsts) i 0) (getD (y .firsts) i 0))
+
+-- n monitors from i on: the first that does not go on, or the one behind the last; and the memory
+pub record Reached : Type 0 where
+  pub monitor : ℕ
+  pub memory : List ℕ
+
+abbrev pub reached : ℕ → List ℕ → Reached
+reached i M = record { monitor = i; memory = M }
+
+-- monitor i said yes, or no
+abbrev pub reachedBy : (i : ℕ) → Told → (List ℕ → Reached) → Reached
+reachedBy i a f = cond (a .yes) (f (a .memory)) (reached i (a .memory))
+
+unfoldable pub monitorsGo : Given → Layout → (marks : List ℕ) → (n i : ℕ) → List ℕ → Reached
+monitorsGo g y marks zero i M = reached i M
+monitorsGo g y marks (suc n) i M = reachedBy i (monitorGoes g y marks i M) (monitorsGo g y marks n (suc i))
+
+-- ---- what a good tick leaves
+
+-- "the marks after a tick are a new set": of the first n letters those marked in the memory, and no monitor is at its start
+abbrev pub marksAfter : (n : ℕ) → (memory : List ℕ) → List ℕ
+marksAfter n M = sets (replicate 288 0) 0 (take n (drop 2048 M))
+
+-- the writes of letter l, if it is marked
+abbrev pub writeIf : Given → (marks : List ℕ) → (l : ℕ) → List ℕ → List ℕ
+writeIf g marks l σ = cond (eqb (getD marks l 0) 0) σ (writeLetter g l σ)
+
+-- "of two writes to one store the later monitor's stands, then the later letter's": n letters from l on
+unfoldable pub writeMarked : Given → (marks : List ℕ) → (n l : ℕ) → List ℕ → List ℕ
+writeMarked g marks zero l σ = σ
+writeMarked g marks (suc n) l σ = writeMarked g marks n (suc l) (writeIf g marks l σ)
+
+-- ---- one tick
+
+-- the first monitor that does not go on, or the number of monitors; the marks and store values after the tick, or as before it where one does not
+pub record Move : Type 0 where
+  pub monitor : ℕ
+  pub marks : List ℕ
+  pub values : List ℕ
+
+abbrev pub move : ℕ → (marks values : List ℕ) → Move
+move i marks values = record { monitor = i; marks = marks; values = values }
+
+-- nothing is known, nothing is marked
+abbrev pub emptyMemory : List ℕ
+emptyMemory = replicate 2304 0
+
+abbrev pub moveBy : Given → Layout → (marks : List ℕ) → Reached → Move
+moveBy g y marks a =
+    cond (ltb (a .monitor) (y .monitors)) (move (a .monitor) marks (g .values))
+    (move (a .monitor) (marksAfter (y .letters) (a .memory)) (writeMarked g (marksAfter (y .letters) (a .memory)) (y .letters) 0 (g .values)))
+
+unfoldable pub stepWithin : Given → Layout → (marks : List ℕ) → Move
+stepWithin g y marks = moveBy g y marks (monitorsGo g y marks (y .monitors) 0 emptyMemory)
+
+abbrev pub stepOf : Given → Layout → (marks : List ℕ) → Move
+stepOf g y marks = stepWithin g (within y) marks
+
+-- the verdict of a step: "the lowest monitor that no longer fits"
+abbrev pub verdictOf : Layout → Move → Verdict
+verdictOf y a = cond (ltb (a .monitor) (within y .monitors)) (bad (a .monitor)) ok

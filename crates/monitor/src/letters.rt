@@ -1,0 +1,120 @@
+// A letter at a tick: whether it is met, and what it writes (specs/Letters.antt).
+use super::parts::part0;
+use super::parts::part1;
+use super::parts::part2;
+ghost use mathlib.Core.Path.{_≡_};
+ghost use mathlib.Core.List.{List};
+ghost use Prim.Native.Nat.{ℕ, _<_};
+ghost use lib.ListN.{getD, set};
+ghost use Rattle.meaning.specs.Masks.{passes};
+ghost use Rattle.monitor.specs.Letters.{given, linkValue, testMet, letterMet, writeSlot, writeLetter};
+
+// What a link's store is compared with, or what is written there.
+fn link_value(link: u64, number: u64, word: u64) -> u64
+    ensures { λ r. ⌜ r ≡ linkValue link number word ⌝ }
+{
+    if part1(link) == 2 {
+        return number;
+    }
+    (word >> (part2(link) % 64)) & number
+}
+
+// A store's value; 0 where there is no such store.
+fn value_at(values: &[u64], store: usize) -> u64
+    ensures { λ r. ⌜ r ≡ getD (now (values .entry)) store 0 ⌝ }
+{
+    if store < values.len() {
+        return values[store];
+    }
+    0
+}
+
+// Whether the store test in a slot is met, or there is none.
+fn test_met(
+    slot: usize,
+    word: u64,
+    links: &[u64; 1024],
+    numbers: &[u64; 1024],
+    values: &[u64; 16],
+) -> bool
+    requires { ⌜ slot < 1024 ⌝ }
+    ensures { λ r. ⌜ ((T A B : List ℕ) → r ≡ testMet (given T A B (now (links .entry)) (now (numbers .entry)) (now (values .entry)) word) slot) ⌝ }
+{
+    let link = links[slot];
+    if link == 0 {
+        return true;
+    }
+    value_at(values, part0(link)) == link_value(link, numbers[slot], word)
+}
+
+// Whether each wire looked at has the value wanted.
+fn passes(look: u64, want: u64, word: u64) -> bool
+    ensures { λ r. ⌜ r ≡ passes look want word ⌝ }
+{
+    (word ^ want) & look == 0
+}
+
+// The letter test: wires and stores.
+pub(crate) fn letter_met(
+    letter: usize,
+    word: u64,
+    look: &[u64; 256],
+    want: &[u64; 256],
+    links: &[u64; 1024],
+    numbers: &[u64; 1024],
+    values: &[u64; 16],
+) -> bool
+    requires { ⌜ letter < 256 ⌝ }
+    ensures { λ r. ⌜ ((T : List ℕ) → r ≡ letterMet (given T (now (look .entry)) (now (want .entry)) (now (links .entry)) (now (numbers .entry)) (now (values .entry)) word) letter) ⌝ }
+{
+    if !passes(look[letter], want[letter], word) {
+        return false;
+    }
+    if !test_met(4 * letter, word, links, numbers, values) {
+        return false;
+    }
+    test_met(4 * letter + 1, word, links, numbers, values)
+}
+
+// Stores a value; nothing where there is no such store.
+fn put_value(store: usize, value: u64, values: &mut [u64])
+    ensures { λ _. ⌜ now (values .exit) ≡ set (now (values .entry)) store value ⌝ }
+{
+    if values.len() <= store {
+        return;
+    }
+    values[store] = value;
+}
+
+// The write in a slot, or none.
+fn write_slot(
+    slot: usize,
+    word: u64,
+    links: &[u64; 1024],
+    numbers: &[u64; 1024],
+    values: &mut [u64; 16],
+)
+    requires { ⌜ slot < 1024 ⌝ }
+    ensures { λ _. ⌜ ((T A B S : List ℕ) → now (values .exit) ≡ writeSlot (given T A B (now (links .entry)) (now (numbers .entry)) S word) slot (now (values .entry))) ⌝ }
+{
+    let link = links[slot];
+    if link == 0 {
+        return;
+    }
+    put_value(part0(link), link_value(link, numbers[slot], word), values);
+}
+
+// The writes of a letter, in their order.
+pub(crate) fn write_letter(
+    letter: usize,
+    word: u64,
+    links: &[u64; 1024],
+    numbers: &[u64; 1024],
+    values: &mut [u64; 16],
+)
+    requires { ⌜ letter < 256 ⌝ }
+    ensures { λ _. ⌜ ((T A B S : List ℕ) → now (values .exit) ≡ writeLetter (given T A B (now (links .entry)) (now (numbers .entry)) S word) letter (now (values .entry))) ⌝ }
+{
+    write_slot(4 * letter + 2, word, links, numbers, values);
+    write_slot(4 * letter + 3, word, links, numbers, values);
+}
