@@ -9,7 +9,7 @@ mod Monitors
 mod Watching
 mod Replies
 mod LetterSteps
-mod TickSteps
+pub mod TickSteps
 mod Stored
 mod FewMonitors
 mod Numbered

@@ -3,7 +3,7 @@
 ghost use mathlib.Core.Path.{_≡_};
 ghost use Prim.Native.Nat.{_+_, _<_, _≤_};
 ghost use lib.ListN.{length};
-use crate::line;
+use crate::sheets;
 use crate::show;
 
 // No place in a file.
@@ -56,24 +56,18 @@ fn part(file: &[u8], at: usize) -> &[u8] {
     &file[from..end]
 }
 
-// The line that begins the sheet, line feed included.
-fn first_line(sheet: &[u8]) -> &[u8] {
-    let mut i = 0;
-    while i < sheet.len() {
-        if sheet[i] == b'\n' {
-            let end = i + 1;
-            return &sheet[0..end];
-        }
-        i += 1;
-    }
-    sheet
-}
-
-// 1 if the case whose name, text and sheet begin there differs, with its name printed.
-fn differing(list: &[u8], file: &[u8], name: usize, text: usize, sheet: usize) -> usize
+// 1 if the case whose name, text, trace and sheet begin there differs, with its name printed.
+fn differing(
+    list: &[u8],
+    file: &[u8],
+    name: usize,
+    text: usize,
+    trace: usize,
+    sheet: usize,
+) -> usize
     ensures { λ r. ⌜ r ≤ 1 ⌝ }
 {
-    if line::is_right(part(file, text), first_line(part(file, sheet))) {
+    if sheets::is_right(part(file, text), part(file, trace), part(file, sheet)) {
         return 0;
     }
     show::differs(list, part(file, name));
@@ -88,7 +82,7 @@ fn damaged(list: &[u8], at: usize) {
 }
 
 fn walk(list: &[u8], file: &[u8]) {
-    let mut texts = 0;
+    let mut cases = 0;
     let mut differ = 0;
     let mut at = 0;
     while at < file.len() {
@@ -100,11 +94,11 @@ fn walk(list: &[u8], file: &[u8]) {
             damaged(list, at);
             return;
         }
-        differ += differing(list, file, at, text, sheet);
-        texts += 1;
+        differ += differing(list, file, at, text, trace, sheet);
+        cases += 1;
         at = next;
     }
-    show::tally(list, texts, differ);
+    show::tally(list, cases, differ);
 }
 
 // Room for a file: about twice the largest. A larger one is cut, and so damaged.
@@ -114,7 +108,7 @@ fn room() -> [u8; 1_048_576]
     [0; 1_048_576]
 }
 
-// Opens every text of the file with that name, and prints the tally.
+// Prints the sheet of every case of the file with that name, compares it, and prints the tally.
 pub fn run(list: &[u8]) {
     let fd = os::open_read(list);
     if fd < 0 {

@@ -5,10 +5,10 @@
 //   mon33, paren32, paren33;
 // - 256 letters by eight doublings: edge.bin, letters-256, letters-257.
 ghost use Prim.Native.Nat.{_≤_};
-use crate::line;
 use crate::page::put;
 use crate::page::put_byte;
 use crate::page::put_number;
+use crate::sheets;
 use crate::show;
 
 // Writes a pattern's byte: `#` stands for the number, `%` for the number before it.
@@ -46,12 +46,12 @@ fn put_each(page: &mut [u8], at: usize, pattern: &[u8], first: u64, end: u64) ->
     to
 }
 
-// 1 if the text, which ends at `n`, does not give the line, with its name printed.
+// 1 if the text, which ends at `n`, does not give the sheet with an empty trace, with its name printed.
 fn differing(name: &[u8], page: &[u8], n: usize, right: &[u8]) -> usize
     ensures { λ r. ⌜ r ≤ 1 ⌝ }
 {
     if n <= page.len() {
-        if line::is_right(&page[0..n], right) {
+        if sheets::is_right(&page[0..n], b"", right) {
             return 0;
         }
     }
@@ -65,7 +65,7 @@ fn wires_64(page: &mut [u8]) -> usize
 {
     let n = put_each(page, 0, b"input w#; ", 0, 64);
     let n = put(page, n, b"p -> w63 & !w0 || w0 & !w63; monitor p;");
-    differing(b"wires-64", page, n, b"rows 3 letters 2\n")
+    differing(b"wires-64", page, n, b"rows 3 letters 2\nclean 0\n")
 }
 
 // The name w64: 10 statements of 10 bytes, 54 of 11 and `input ` stand before it.
@@ -107,7 +107,7 @@ fn doublings_unused(page: &mut [u8]) -> usize
 {
     let n = put_doublings(page);
     let n = put(page, n, b"monitor p1, p0;");
-    differing(b"doublings-unused", page, n, b"rows 4 letters 3\n")
+    differing(b"doublings-unused", page, n, b"rows 4 letters 3\nclean 0\n")
 }
 
 // 120 productions, each the one before in 32 parentheses, which have no rows: one letter.
@@ -123,7 +123,7 @@ fn chain(page: &mut [u8]) -> usize
         121,
     );
     let n = put(page, n, b"monitor p120;");
-    differing(b"chain", page, n, b"rows 1 letters 1\n")
+    differing(b"chain", page, n, b"rows 1 letters 1\nclean 0\n")
 }
 
 // 256 letters, 255 stars, 255 commas.
@@ -133,7 +133,7 @@ fn starred(page: &mut [u8]) -> usize
     let n = put(page, 0, b"input D[7:0]; p -> ");
     let n = put_each(page, n, b"D==#*,", 1, 256);
     let n = put(page, n, b"D==0; monitor p;");
-    differing(b"starred", page, n, b"rows 766 letters 256\n")
+    differing(b"starred", page, n, b"rows 766 letters 256\nclean 0\n")
 }
 
 // 255 starred letters and nothing else: a hollow monitor.
@@ -165,7 +165,7 @@ fn differing_at(i: usize, page: &mut [u8]) -> usize
     }
 }
 
-// Makes and opens every text, and prints the tally.
+// Makes every text, compares its sheet, and prints the tally.
 pub fn run() {
     let mut page = [0u8; 16384];
     let mut differ = 0;

@@ -1,8 +1,8 @@
-// Opens the text of every shipped case, and texts at the limits, and compares the opening's line with the right one.
+// Prints the sheet of every shipped case, and of texts at the limits, and compares it with the right one.
 mod cases;
 mod limits;
-mod line;
 mod page;
+mod sheets;
 mod show;
 
 fn main() {

@@ -1,4 +1,4 @@
-// What the program prints: a line for each text that differs, and one for each list of texts.
+// What the program prints: a line for each case that differs, and one for each list of cases.
 use libc::STDOUT_FILENO;
 
 pub fn print(text: &[u8]) {
@@ -17,11 +17,11 @@ pub fn differs(list: &[u8], name: &[u8]) {
     print(b"\n");
 }
 
-pub fn tally(list: &[u8], texts: usize, differ: usize) {
+pub fn tally(list: &[u8], cases: usize, differ: usize) {
     print(list);
     print(b": ");
-    number(texts);
-    print(b" texts, ");
+    number(cases);
+    print(b" cases, ");
     number(differ);
     print(b" differ\n");
 }

@@ -1,4 +1,4 @@
--- `vectors::cases::walk` is safe and ends: each case ends past its begin, and at most as many texts differ as were opened.
+-- `vectors::cases::walk` is safe and ends: each case ends past its begin, and no more cases differ than there were.
 -- Assumes nothing.
 use borrow.Author.Needs.{needs}
 use Prim.Native.Nat.{_≤_, _-_}
@@ -7,10 +7,10 @@ use Rattle.vectors.proofs.cases.walk.Statement.{statement}
 use Rattle.vectors.proofs.cases.walk.Tie as tie
 
 abbrev Inv-loop : tie.InvT-loop
-Inv-loop list file texts₀ differ₀ at₀ texts differ at = (differ ≤ texts) × (texts ≤ at)
+Inv-loop list file cases₀ differ₀ at₀ cases differ at = (differ ≤ cases) × (cases ≤ at)
 
 abbrev μ-loop : tie.MeasureT-loop
-μ-loop list file texts₀ differ₀ at₀ texts differ at = length file - at
+μ-loop list file cases₀ differ₀ at₀ cases differ at = length file - at
 
 loop-holds : tie.Need-loop-holds Inv-loop μ-loop
 loop-holds c = search needs
@@ -39,8 +39,8 @@ differing-requires c κs = search needs
 add-differ : tie.Need-add-differ Inv-loop μ-loop
 add-differ c = search needs
 
-add-texts : tie.Need-add-texts Inv-loop μ-loop
-add-texts c = search needs
+add-cases : tie.Need-add-cases Inv-loop μ-loop
+add-cases c = search needs
 
 loop-less : tie.Need-loop-less Inv-loop μ-loop
 loop-less c = search needs
@@ -69,7 +69,7 @@ walk-spec =
     returns
     differing-requires
     add-differ
-    add-texts
+    add-cases
     loop-less
     loop-again
     tally-requires

@@ -1,4 +1,4 @@
--- `vectors::limits::run` is safe and ends: at most as many texts differ as were opened.
+-- `vectors::limits::run` is safe and ends: no more texts differ than were made.
 -- Assumes nothing.
 use borrow.Author.Needs.{needs}
 use mathlib.Core.Path.{_≡_}

@@ -1,0 +1,115 @@
+//! The whole way from rule text and records to the printed sheet in memory: one million ticks, its time as a ratio to `second`'s, in one run.
+//! Both sides print the same bytes.
+
+use second::{Answer, Watch};
+use std::time::Instant;
+
+extern "C" {
+    fn linewatch_sheet(text: *const u8, text_length: usize, records: *const u8, records_length: usize, sheet: *mut u8, sheet_length: usize) -> usize;
+}
+
+const TICKS: usize = 1_000_000;
+const RUNS: usize = 5;
+
+fn proved(text: &[u8], records: &[u8], sheet: &mut [u8]) -> usize {
+    unsafe { linewatch_sheet(text.as_ptr(), text.len(), records.as_ptr(), records.len(), sheet.as_mut_ptr(), sheet.len()) }
+}
+
+/// Words that keep the rules: random ones, most of them from `pool`, each tried on a copy of the watch.
+fn words(text: &[u8], pool: &[u64]) -> Vec<u64> {
+    let program = second::open(text).expect("the text is accepted");
+    let mask = if program.wires() == 64 { u64::MAX } else { (1 << program.wires()) - 1 };
+    let mut watch = Watch::new(&program);
+    let mut seed: u64 = 88_172_645_463_325_252;
+    let mut words = Vec::with_capacity(TICKS);
+    let mut tries = 0;
+    while words.len() < TICKS {
+        seed ^= seed << 13;
+        seed ^= seed >> 7;
+        seed ^= seed << 17;
+        let word = if pool.is_empty() { (seed >> 3) & mask } else { pool[(seed >> 3) as usize % pool.len()] };
+        let mut next = watch.clone();
+        if next.tick(word) == Answer::Ok {
+            watch = next;
+            words.push(word);
+            tries = 0;
+        } else {
+            tries += 1;
+            assert!(tries < 1_000_000, "no word goes on");
+        }
+    }
+    words
+}
+
+/// The records of words.
+fn records(words: &[u64]) -> Vec<u8> {
+    let mut trace = Vec::new();
+    let mut before = 0;
+    for &word in words {
+        let mut record = [0; 9];
+        let length = second::record::write(before, word, &mut record).expect("a record has at most 9 bytes");
+        trace.extend_from_slice(&record[..length]);
+        before = word;
+    }
+    trace
+}
+
+fn compare(name: &str, text: &[u8], pool: &[u64]) {
+    let program = second::open(text).expect("the text is accepted");
+    let trace = records(&words(text, pool));
+    let right = second::sheet(text, &trace);
+    let mut range = vec![1; 64 * (TICKS + 4)];
+    let length = proved(text, &trace, &mut range);
+    assert!(range[..length] == right[..], "{name}: the sheets differ");
+    let (mut ours, mut theirs) = (f64::MAX, f64::MAX);
+    for _ in 0..RUNS {
+        let start = Instant::now();
+        proved(text, &trace, &mut range);
+        ours = ours.min(start.elapsed().as_secs_f64());
+        let start = Instant::now();
+        std::hint::black_box(second::sheet(text, &trace));
+        theirs = theirs.min(start.elapsed().as_secs_f64());
+    }
+    println!(
+        "{name}: {} rows, {} letters, proved {:.3} us a tick, second {:.3} us a tick, ratio {:.2}, proved {:.1} ns a tick and row",
+        program.rows(),
+        program.letters(),
+        ours * 1e6 / TICKS as f64,
+        theirs * 1e6 / TICKS as f64,
+        ours / theirs,
+        ours * 1e9 / TICKS as f64 / f64::from(program.rows())
+    );
+}
+
+const SAMPLE: &[u8] = b"input SCAN;\ninput CUT;\nline -> SCAN @ (CUT || !CUT, CUT) || !SCAN;\nmonitor line;\n";
+
+/// Eight monitors, each of which starts a thread of three units at every tick; a unit is nine starred letters and one more.
+fn many() -> (Vec<u8>, Vec<u64>) {
+    let mut text = String::from("input a;\ninput F[3:0];\nunit -> ");
+    for k in 0..9 {
+        text += &format!("(a & F == {k})*, ");
+    }
+    text += "a & F == 9;\nthread -> unit, unit, unit;\nline -> a @ thread || !a & F == 15;\nmonitor line, line, line, line, line, line, line, line;\n";
+    let mut pool: Vec<u64> = (0..10).map(|f| 1 + 2 * f).collect();
+    pool.extend([1 + 2 * 9; 10]);
+    (text.into_bytes(), pool)
+}
+
+/// A chain of 100 stages, each of two starred letters.
+fn chain() -> (Vec<u8>, Vec<u64>) {
+    let mut text = String::from("input F[7:0];\nchain -> ");
+    for k in 0..100 {
+        text += &format!("((F == {})* || (F == {})*), ", 2 * k, 2 * k + 1);
+    }
+    text += "F == 255;\nmonitor chain;\n";
+    (text.into_bytes(), (0..200).chain([255]).collect())
+}
+
+fn main() {
+    compare("(a) sample", SAMPLE, &[]);
+    compare("(b) AHB slave of document 004", include_bytes!("../../../cases/ahb_slave_basic/rules.txt"), &[]);
+    let (text, pool) = many();
+    compare("(c) many positions", &text, &pool);
+    let (text, pool) = chain();
+    compare("(d) chain of stars", &text, &pool);
+}

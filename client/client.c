@@ -1,0 +1,182 @@
+/* A C program that uses the line watch, and tests it through its C interface:
+ *
+ *     client sheet RULES TRACE         prints the sheet of two files
+ *     client cases FILE..              runs files of cases (name, text, trace, sheet) and compares each sheet
+ *     client same RULES TRACE SHEET    compares the sheet of two files with a third
+ *     client limits                    a short range, no range, records, and traces of 1,000,000 ticks and one more
+ *
+ * It exits with 0 if all is well. */
+#include <stdio.h>
+#include <stdlib.h>
+#include <string.h>
+
+#include "linewatch.h"
+
+struct bytes {
+    uint8_t *at;
+    size_t length;
+};
+
+static struct bytes read_file(const char *name)
+{
+    struct bytes b = {NULL, 0};
+    size_t room = 0;
+    FILE *f = fopen(name, "rb");
+    if (!f)
+        return b;
+    for (;;) {
+        if (b.length == room) {
+            room = room ? 2 * room : 65536;
+            b.at = realloc(b.at, room);
+            if (!b.at)
+                exit(2);
+        }
+        size_t got = fread(b.at + b.length, 1, room - b.length, f);
+        if (got == 0)
+            break;
+        b.length += got;
+    }
+    fclose(f);
+    return b;
+}
+
+/* The sheet in memory of its own, with as much room as it can need: a line has less than 64 bytes, and a record at least one. */
+static struct bytes sheet_of(struct bytes text, struct bytes records)
+{
+    size_t room = 64 * (records.length < 1000001 ? records.length + 4 : 1000005);
+    struct bytes sheet = {malloc(room), 0};
+    if (!sheet.at)
+        exit(2);
+    sheet.length = linewatch_sheet(text.at, text.length, records.at, records.length, sheet.at, room);
+    return sheet;
+}
+
+static int same(struct bytes a, struct bytes b)
+{
+    return a.length == b.length && memcmp(a.at, b.at, a.length) == 0;
+}
+
+static int check(const char *name, int ok)
+{
+    if (!ok)
+        printf("differs: %s\n", name);
+    return ok ? 0 : 1;
+}
+
+/* One of a case's four byte strings, behind its length as 32 bits, lowest byte first; ends the program where the file is damaged. */
+static struct bytes part(struct bytes file, size_t *at)
+{
+    if (file.length - *at < 4)
+        exit(2);
+    const uint8_t *p = file.at + *at;
+    size_t length = p[0] | (size_t)p[1] << 8 | (size_t)p[2] << 16 | (size_t)p[3] << 24;
+    *at += 4;
+    if (file.length - *at < length)
+        exit(2);
+    struct bytes b = {file.at + *at, length};
+    *at += length;
+    return b;
+}
+
+static int run_cases(const char *name)
+{
+    struct bytes file = read_file(name);
+    size_t at = 0;
+    int bad = 0, count = 0;
+    if (file.length == 0)
+        bad += check(name, 0);
+    while (at < file.length) {
+        struct bytes title = part(file, &at), text = part(file, &at), records = part(file, &at), right = part(file, &at);
+        char label[256];
+        snprintf(label, sizeof label, "%s: %.*s", name, (int)(title.length < 100 ? title.length : 100), (const char *)title.at);
+        struct bytes sheet = sheet_of(text, records);
+        bad += check(label, same(sheet, right));
+        /* exactly enough room, and one byte too few */
+        uint8_t *exact = malloc(right.length + 1);
+        if (!exact)
+            exit(2);
+        memset(exact, 0xa5, right.length + 1);
+        size_t got = linewatch_sheet(text.at, text.length, records.at, records.length, exact, right.length);
+        bad += check(label, got == right.length && memcmp(exact, right.at, got) == 0 && exact[right.length] == 0xa5);
+        memset(exact, 0xa5, right.length + 1);
+        got = linewatch_sheet(text.at, text.length, records.at, records.length, exact, right.length - 1);
+        int untouched = got == 0;
+        for (size_t i = 0; i <= right.length; i++)
+            untouched = untouched && exact[i] == 0xa5;
+        bad += check(label, untouched);
+        free(exact);
+        free(sheet.at);
+        count++;
+    }
+    printf("%s: %d cases, %d differences\n", name, count, bad);
+    free(file.at);
+    return bad;
+}
+
+/* The last line of a sheet. */
+static const char *last_line(struct bytes sheet, char *line, size_t room)
+{
+    size_t end = sheet.length, from;
+    if (end > 0)
+        end--;
+    for (from = end; from > 0 && sheet.at[from - 1] != '\n'; from--)
+        ;
+    snprintf(line, room, "%.*s", (int)(end - from), (const char *)sheet.at + from);
+    return line;
+}
+
+static int run_limits(void)
+{
+    static const char rules[] = "input a; p -> a || !a; monitor p;";
+    struct bytes text = {(uint8_t *)(uintptr_t)rules, sizeof rules - 1};
+    char line[64];
+    int bad = 0;
+
+    bad += check("no range", linewatch_sheet(text.at, text.length, NULL, 0, NULL, 0) == 0);
+    struct bytes nothing = {NULL, 0};
+    struct bytes refused = sheet_of(nothing, nothing);
+    bad += check("no text", strcmp(last_line(refused, line, sizeof line), "refused 3 0") == 0);
+    free(refused.at);
+
+    uint8_t record[9];
+    memset(record, 0xa5, sizeof record);
+    bad += check("a record", linewatch_write_record(0x0100, 0x0706, record, 9) == 3 && memcmp(record, "\3\6\7\xa5", 4) == 0);
+    bad += check("a long record", linewatch_write_record(0, 0x0807060504030201, record, 9) == 9 && record[8] == 8);
+    memset(record, 0xa5, sizeof record);
+    bad += check("too short for a record", linewatch_write_record(0x0100, 0x0706, record, 2) == 0 && record[0] == 0xa5);
+    bad += check("no room for a record", linewatch_write_record(0, 0, NULL, 0) == 0);
+
+    struct bytes records = {calloc(1000001, 1), 1000000};
+    if (!records.at)
+        exit(2);
+    struct bytes sheet = sheet_of(text, records);
+    bad += check("1,000,000 ticks", strcmp(last_line(sheet, line, sizeof line), "clean 1000000") == 0);
+    free(sheet.at);
+    records.length = 1000001;
+    sheet = sheet_of(text, records);
+    bad += check("1,000,001 ticks", strcmp(last_line(sheet, line, sizeof line), "refused 17 1000000") == 0);
+    free(sheet.at);
+    free(records.at);
+    printf("limits: %d differences\n", bad);
+    return bad;
+}
+
+int main(int argc, char **argv)
+{
+    int bad = 0;
+    if (argc == 4 && strcmp(argv[1], "sheet") == 0) {
+        struct bytes sheet = sheet_of(read_file(argv[2]), read_file(argv[3]));
+        bad = fwrite(sheet.at, 1, sheet.length, stdout) != sheet.length;
+    } else if (argc == 5 && strcmp(argv[1], "same") == 0) {
+        bad = check(argv[3], same(sheet_of(read_file(argv[2]), read_file(argv[3])), read_file(argv[4])));
+    } else if (argc == 2 && strcmp(argv[1], "limits") == 0) {
+        bad = run_limits();
+    } else if (argc > 2 && strcmp(argv[1], "cases") == 0) {
+        for (int i = 2; i < argc; i++)
+            bad += run_cases(argv[i]);
+    } else {
+        fprintf(stderr, "usage: client sheet RULES TRACE | client same RULES TRACE SHEET | client cases FILE.. | client limits\n");
+        return 2;
+    }
+    return bad ? 1 : 0;
+}

@@ -1,0 +1,7 @@
+-- The laws behind the printed sheet.
+mod Printed
+mod Lengths
+mod RunSteps
+mod SheetSteps
+mod PageSteps
+mod LineSteps

@@ -1,0 +1,168 @@
+-- The steps of page.rt: digits and bytes stored behind one another. Assumes nothing.
+use mathlib.Core.Path.{_≡_, refl, sym, ap, ap₂, _∙_, subst}
+use mathlib.Core.Bool.{Bool, cond}
+use mathlib.Core.List.{List, _∷_, _++_}
+use Prim.Native.Nat.{ℕ, zero, suc, _+_, _-_, _*_, _/_, _%_, _^_, _≤_, _<_}
+use native.Mathlib.Omega.{arith}
+use native.Mathlib.Nat.{div-eq-of-lt, div-lt-iff-lt-mul, mod-eq-of-lt, pow-suc}
+use lib.ListN.{length, getD, set, take, drop, length-append, length-set, length-drop, drop-of-length-le}
+use lib.Seq.{sets, drop-cons, drop-set-lt, getD-set-same, lt-length-set, take-all}
+use borrow.Author.Tests.{lt-ltb, le-ltb}
+use Rattle.meaning.specs.Sheet.{digitsIn, decimal, hexadecimal}
+use Rattle.rules.proofs.Overlay.{sets-behind}
+use Rattle.sheet.specs.Digits.{hexDigit}
+
+-- ---- puts behind one another
+
+-- xs are put at a place, and the place behind is told
+pub record Put (o : List ℕ) (a : ℕ) (xs o′ : List ℕ) (a′ : ℕ) : Type 0 where
+  pub wrote : o′ ≡ sets o a xs
+  pub behind : a′ ≡ a + length xs
+
+pub put-two : {o o₁ o₂ xs ys : List ℕ} {a a₁ a₂ : ℕ} → Put o a xs o₁ a₁ → Put o₁ a₁ ys o₂ a₂ → Put o a (xs ++ ys) o₂ a₂
+put-two {o} {o₁} {o₂} {xs} {ys} {a} {a₁} {a₂} p q =
+    record {
+      wrote = q .wrote ∙ ap (λ (l : List ℕ). sets l a₁ ys) (p .wrote) ∙ sets-behind o a a₁ xs ys (xs ++ ys) (p .behind) refl;
+      behind = omega (arith, length-append xs ys);
+    }
+
+-- a turn of `put_text`: the byte at i, and then those behind it
+pub text-more : (o₀ o o′ text : List ℕ) (at place place′ i : ℕ) → i < length text → sets o₀ at text ≡ sets o place (drop i text)
+    → o′ ≡ set o place (getD text i 0) → place′ ≡ place + 1 → sets o₀ at text ≡ sets o′ place′ (drop (i + 1) text)
+text-more o₀ o o′ text at place place′ i h e p q =
+    let s : suc place ≡ place′ = omega (arith, q) in
+    let t : suc i ≡ i + 1 = omega arith in
+    e ∙ ap (sets o place) (drop-cons text i 0 h)
+    ∙ ap₂ (λ (l : List ℕ) (m : ℕ). sets l m (drop (suc i) text)) (sym p) s
+    ∙ ap (λ (m : ℕ). sets o′ place′ (drop m text)) t
+
+pub text-end : (o₀ o text : List ℕ) (at place i : ℕ) → length text ≤ i → sets o₀ at text ≡ sets o place (drop i text) → o ≡ sets o₀ at text
+text-end o₀ o text at place i h e = sym (e ∙ ap (sets o place) (drop-of-length-le text h))
+
+-- ---- digits
+
+pub digit-low : (d : ℕ) → d < 10 → 48 + d ≡ hexDigit d
+digit-low d h = ap (λ (b : Bool). cond b (48 + d) (87 + d)) (sym (lt-ltb d 10 h))
+
+pub digit-high : (d : ℕ) → 10 ≤ d → 87 + d ≡ hexDigit d
+digit-high d h = ap (λ (b : Bool). cond b (48 + d) (87 + d)) (sym (le-ltb d 10 h))
+
+digits-end : (k n : ℕ) (ds : List ℕ) → n / 10 ≡ 0 → digitsIn 10 (suc k) n ds ≡ hexDigit (n % 10) ∷ ds
+unfolding digitsIn
+digits-end k n ds e =
+    subst
+    (λ (q : ℕ). elim q as (λ _. List ℕ) [ zero ↦ hexDigit (n % 10) ∷ ds | suc m ↦ digitsIn 10 k (n / 10) (hexDigit (n % 10) ∷ ds) ] ≡ hexDigit (n % 10) ∷ ds)
+    (sym e) refl
+
+digits-more : (k n m : ℕ) (ds : List ℕ) → n / 10 ≡ suc m → digitsIn 10 (suc k) n ds ≡ digitsIn 10 k (n / 10) (hexDigit (n % 10) ∷ ds)
+unfolding digitsIn
+digits-more k n m ds e =
+    subst
+    (λ (q : ℕ).
+    elim q as (λ _. List ℕ) [ zero ↦ hexDigit (n % 10) ∷ ds | suc m ↦ digitsIn 10 k (n / 10) (hexDigit (n % 10) ∷ ds) ] ≡ digitsIn 10 k (n / 10) (hexDigit (n % 10) ∷ ds))
+    (sym e) refl
+
+digits-none : (n : ℕ) (ds : List ℕ) → digitsIn 10 zero n ds ≡ hexDigit (n % 10) ∷ ds
+unfolding digitsIn
+digits-none n ds = refl
+
+-- a count of at least the number does not run out
+enough : (j k n : ℕ) (ds : List ℕ) → n ≤ j → n ≤ k → digitsIn 10 j n ds ≡ digitsIn 10 k n ds
+enough zero zero n ds h g = refl
+enough zero (suc k) n ds h g = digits-none n ds ∙ sym (digits-end k n ds (div-eq-of-lt {n = n} {m = 10} (omega arith)))
+enough (suc j) zero n ds h g = digits-end j n ds (div-eq-of-lt {n = n} {m = 10} (omega arith)) ∙ sym (digits-none n ds)
+enough (suc j) (suc k) n ds h g = by (n / 10) refl (λ l m. enough j k (n / 10) (hexDigit (n % 10) ∷ ds) l m)
+  where
+    by : (q : ℕ) → n / 10 ≡ q
+        → (n / 10 ≤ j → n / 10 ≤ k → digitsIn 10 j (n / 10) (hexDigit (n % 10) ∷ ds) ≡ digitsIn 10 k (n / 10) (hexDigit (n % 10) ∷ ds))
+        → digitsIn 10 (suc j) n ds ≡ digitsIn 10 (suc k) n ds
+    by zero e r = digits-end j n ds e ∙ sym (digits-end k n ds e)
+    by (suc m) e r = digits-more j n m ds e ∙ r (omega arith) (omega arith) ∙ sym (digits-more k n m ds e)
+
+digits-turn : (n : ℕ) (ds : List ℕ) → 10 ≤ n → digitsIn 10 n n ds ≡ digitsIn 10 (n / 10) (n / 10) ((48 + n % 10) ∷ ds)
+digits-turn zero ds h = absurd (omega arith)
+digits-turn (suc k) ds h = by (suc k / 10) refl
+  where
+    by : (q : ℕ) → suc k / 10 ≡ q → digitsIn 10 (suc k) (suc k) ds ≡ digitsIn 10 (suc k / 10) (suc k / 10) ((48 + suc k % 10) ∷ ds)
+    by zero e = absurd (omega arith)
+    by (suc m) e =
+        digits-more k (suc k) m ds e
+        ∙ enough k (suc k / 10) (suc k / 10) (hexDigit (suc k % 10) ∷ ds) (omega arith) (omega arith)
+        ∙ ap (λ (d : ℕ). digitsIn 10 (suc k / 10) (suc k / 10) (d ∷ ds)) (sym (digit-low (suc k % 10) (omega arith)))
+
+digits-last : (n : ℕ) (ds : List ℕ) → n < 10 → digitsIn 10 n n ds ≡ (48 + n) ∷ ds
+digits-last n ds h = by n refl ∙ ap (λ (d : ℕ). d ∷ ds) (ap hexDigit (mod-eq-of-lt h) ∙ sym (digit-low n h))
+  where
+    by : (k : ℕ) → k ≡ n → digitsIn 10 n n ds ≡ hexDigit (n % 10) ∷ ds
+    by zero e = ap (λ (m : ℕ). digitsIn 10 m n ds) (sym e) ∙ digits-none n ds
+    by (suc k) e = ap (λ (m : ℕ). digitsIn 10 m n ds) (sym e) ∙ digits-end k n ds (div-eq-of-lt h)
+
+drop-here : (l : List ℕ) (i v : ℕ) → i < length l → drop i (set l i v) ≡ v ∷ drop (i + 1) l
+drop-here l i v h =
+    let t : suc i ≡ i + 1 = omega arith in
+    drop-cons (set l i v) i 0 (lt-length-set l i v h)
+    ∙ ap₂ (λ (a : ℕ) (r : List ℕ). a ∷ r) (getD-set-same l i v 0 h) (drop-set-lt (suc i) l i v (omega arith) ∙ ap (λ (k : ℕ). drop k l) t)
+
+-- the digits from behind i on are those of n without those of rest, which has at most i + 1
+abbrev pub Filled : (n : ℕ) (digits : List ℕ) (i rest : ℕ) → Type 0
+Filled n digits i rest = (i < 20) × (length digits ≡ 20) × (rest < 10 ^ (i + 1)) × (decimal n ≡ digitsIn 10 rest rest (drop (i + 1) digits))
+
+pub fill-start : (n : ℕ) (digits : List ℕ) → length digits ≡ 20 → n < 2 ^ 64 → Filled n digits 19 n
+unfolding decimal
+fill-start n digits l h = (omega arith, l, omega arith, ap (digitsIn 10 n n) (sym (drop-of-length-le digits {i = 20} (omega (arith, l)))))
+
+pub fill-place : (i rest : ℕ) → rest < 10 ^ (i + 1) → 10 ≤ rest → 1 ≤ i
+fill-place zero rest h g = absurd (omega (arith, h, g))
+fill-place (suc i) rest h g = omega arith
+
+pub fill-more : (n : ℕ) (digits : List ℕ) (i rest : ℕ) → Filled n digits i rest → 10 ≤ rest → Filled n (set digits i (48 + rest % 10)) (i - 1) (rest / 10)
+fill-more n digits i rest (a, b, h, e) g =
+    let p = fill-place i rest h g in
+    let s : i - 1 + 1 ≡ i = omega arith in
+    let t : i + 1 ≡ suc i = omega arith in
+    let big : rest < 10 ^ i * 10 = subst (λ (m : ℕ). rest < m) (ap (λ (k : ℕ). 10 ^ k) t ∙ pow-suc 10 i) h in (
+      omega arith,
+      length-set digits i (48 + rest % 10) ∙ b,
+      subst (λ (k : ℕ). rest / 10 < 10 ^ k) (sym s) (div-lt-iff-lt-mul {k = 10} {x = rest} {y = 10 ^ i} (omega arith) .1 big),
+      e ∙ digits-turn rest (drop (i + 1) digits) g
+          ∙ ap (digitsIn 10 (rest / 10) (rest / 10))
+          (sym (ap (λ (k : ℕ). drop k (set digits i (48 + rest % 10))) s ∙ drop-here digits i (48 + rest % 10) (omega (arith, a, b)))),
+    )
+
+pub fill-end : (n : ℕ) (digits : List ℕ) (i rest : ℕ) → Filled n digits i rest → rest < 10
+    → (drop i (set digits i (48 + rest)) ≡ decimal n) × (i < 20) × (length (set digits i (48 + rest)) ≡ 20)
+fill-end n digits i rest (a, b, h, e) g =
+    (drop-here digits i (48 + rest) (omega (arith, a, b)) ∙ sym (e ∙ digits-last rest (drop (i + 1) digits) g), a, length-set digits i (48 + rest) ∙ b)
+
+-- the digits put are those of the buffer from r on
+pub decimal-put : (n at place r : ℕ) (digits o o′ : List ℕ) → drop r digits ≡ decimal n → length digits ≡ 20
+    → o′ ≡ sets o at (take (20 - r) (drop r digits)) → place ≡ at + length (take (20 - r) (drop r digits))
+    → (o′ ≡ sets o at (decimal n)) × (place ≡ at + length (decimal n)) × (length (decimal n) ≤ 20)
+decimal-put n at place r digits o o′ e l p q =
+    let s : take (20 - r) (drop r digits) ≡ decimal n = take-all (20 - r) (drop r digits) (omega (arith, l, length-drop r digits)) ∙ e in
+    (p ∙ ap (sets o at) s, q ∙ ap (λ (zs : List ℕ). at + length zs) s, omega (arith, l, ap length e, length-drop r digits))
+
+-- ---- words
+
+pub word-length : (k w : ℕ) → length (hexadecimal k w) ≡ k
+unfolding hexadecimal
+word-length zero w = refl
+word-length (suc k) w = ap suc (word-length k w)
+
+word-digit : (k w : ℕ) → 0 < k → hexadecimal k w ≡ hexDigit (w / 2 ^ (4 * (k - 1)) % 16) ∷ hexadecimal (k - 1) w
+unfolding hexadecimal
+word-digit zero w h = absurd (omega arith)
+word-digit (suc k) w h = let e : k ≡ suc k - 1 = omega arith in ap (λ (j : ℕ). hexDigit (w / 2 ^ (4 * j) % 16) ∷ hexadecimal j w) e
+
+pub word-more : (o₀ o o′ : List ℕ) (at place place′ k d w : ℕ) → 0 < k → sets o₀ at (hexadecimal 16 w) ≡ sets o place (hexadecimal k w)
+    → d ≡ hexDigit (w / 2 ^ (4 * (k - 1)) % 16) → o′ ≡ set o place d → place′ ≡ place + 1
+    → sets o₀ at (hexadecimal 16 w) ≡ sets o′ place′ (hexadecimal (k - 1) w)
+word-more o₀ o o′ at place place′ k d w h e f p q =
+    let s : suc place ≡ place′ = omega (arith, q) in
+    e ∙ ap (sets o place) (word-digit k w h)
+    ∙ ap (λ (x : ℕ). sets (set o place x) (suc place) (hexadecimal (k - 1) w)) (sym f)
+    ∙ ap₂ (λ (l : List ℕ) (m : ℕ). sets l m (hexadecimal (k - 1) w)) (sym p) s
+
+pub word-end : (o₀ o : List ℕ) (at place k w : ℕ) → k ≤ 0 → sets o₀ at (hexadecimal 16 w) ≡ sets o place (hexadecimal k w) → o ≡ sets o₀ at (hexadecimal 16 w)
+unfolding hexadecimal
+word-end o₀ o at place k w h e = let z : k ≡ 0 = omega arith in sym (e ∙ ap (λ (j : ℕ). sets o place (hexadecimal j w)) z)

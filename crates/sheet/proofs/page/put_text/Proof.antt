@@ -1,0 +1,56 @@
+-- `sheet::page::put_text` meets its contract.
+-- Assumes nothing.
+use borrow.Author.Needs.{needs}
+use Prim.Native.Nat.{_≤_, _-_, _+_}
+use lib.ListN.{length, drop}
+use lib.Seq.{sets, length-sets}
+use mathlib.Core.Path.{_≡_, ap, _∙_}
+use native.Mathlib.Omega.{arith}
+use Rattle.sheet.proofs.PageSteps.{text-more, text-end}
+use Rattle.sheet.proofs.page.put_text.Statement.{statement}
+use Rattle.sheet.proofs.page.put_text.Tie as tie
+
+abbrev Inv-loop : tie.InvT-loop
+Inv-loop text out₀ at i₀ place₀ out i place = (i ≤ length text) × (place ≡ at + i) × (sets out₀ at text ≡ sets out place (drop i text))
+
+abbrev μ-loop : tie.MeasureT-loop
+μ-loop text out₀ at i₀ place₀ out i place = length text - i
+
+loop-holds : tie.Need-loop-holds Inv-loop μ-loop
+loop-holds c = search needs
+
+shared-slice-read-put : tie.Need-shared-slice-read-put Inv-loop μ-loop
+shared-slice-read-put c = search needs
+
+put-requires : tie.Need-put-requires Inv-loop μ-loop
+put-requires c κs = search needs
+
+add-i : tie.Need-add-i Inv-loop μ-loop
+add-i c = search needs
+
+loop-less : tie.Need-loop-less Inv-loop μ-loop
+loop-less c = search needs
+
+loop-again : tie.Need-loop-again Inv-loop μ-loop
+loop-again c = let l = c .before .before .before .before .before .before .loop in let i = l .inv in (omega arith, omega arith, text-more (c .before .before .before .before .before .before .before .before .before .args .out .now) (l .out) (c .before .before .put .last .1 .0) (c .before .before .before .before .before .before .before .before .before .args .text .now) (c .before .before .before .before .before .before .before .before .before .args .at) (l .place) (c .before .before .put .result) (l .i) (omega arith) (i .2) (c .before .before .put .ensures .0) (c .before .before .put .ensures .1))
+
+same-length : tie.Need-same-length Inv-loop μ-loop
+same-length c = ap length (text-end (c .before .before .before .before .args .out .now) (c .before .loop .out) (c .before .before .before .before .args .text .now) (c .before .before .before .before .args .at) (c .before .loop .place) (c .before .loop .i) (omega arith) (c .before .loop .inv .2)) ∙ length-sets (c .before .before .before .before .args .out .now) (c .before .before .before .before .args .at) (c .before .before .before .before .args .text .now)
+
+returns : tie.Need-returns Inv-loop μ-loop
+returns c = (text-end (c .before .before .before .before .args .out .now) (c .before .loop .out) (c .before .before .before .before .args .text .now) (c .before .before .before .before .args .at) (c .before .loop .place) (c .before .loop .i) (omega arith) (c .before .loop .inv .2), (let i = c .before .loop .inv in omega arith))
+
+pub put-text-spec : {M : Type 1} → statement M
+put-text-spec =
+    tie.close
+    (tie.spec
+    Inv-loop
+    μ-loop
+    loop-holds
+    shared-slice-read-put
+    put-requires
+    add-i
+    loop-less
+    loop-again
+    same-length
+    returns)

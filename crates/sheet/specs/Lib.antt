@@ -1,0 +1,4 @@
+-- What is printed, over any watch.
+pub mod Digits
+pub mod Lines
+pub mod Items

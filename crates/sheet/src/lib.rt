@@ -1,0 +1,157 @@
+// The printed sheet: from a rule text and the records of a trace to the sheet's bytes in a lent range, for C too; and the same
+// in pieces, for traces longer than any buffer. What is printed is said by `meaning`'s specs/Sheet.antt.
+mod lines;
+mod page;
+mod ticking;
+
+use lines::put_clean;
+use lines::put_counts;
+use lines::put_refusal;
+use lines::put_refusal_at;
+use rules::Outcome;
+use rules::Watch;
+use rules::open;
+pub use ticking::Ran;
+use ticking::run_from;
+ghost use mathlib.Core.Path.{_≡_};
+ghost use Prim.Native.Nat.{ℕ, _+_, _*_, _<_, _≤_, min};
+ghost use lib.Dec.{leb};
+ghost use lib.ListN.{length, drop};
+ghost use lib.Seq.{sets};
+ghost use mathlib.Core.List.{List};
+ghost use Rattle.trace.specs.Record.{written};
+ghost use Rattle.trace.specs.Whole.{lend, numberOrZero};
+ghost use Rattle.meaning.specs.Sheet.{sheet, lentSheet, lentLength};
+ghost use Rattle.sheet.specs.Lines.{run, runOver, lastLine, firstLine, isRefused};
+ghost use Rattle.sheet.specs.Items.{outcomeLine, refusedOutcome};
+ghost use Rattle.meaning.specs.Opening.{openText};
+ghost use Rattle.rules.specs.Watches.{watchOf};
+
+// The last line where no more bytes come.
+fn put_last(ticks: u64, left: usize, out: &mut [u8], at: usize) -> usize
+    requires { ⌜ at < 4294967296 ⌝ }
+    ensures { λ r. ⌜ ((rest : List ℕ) → left ≡ length rest → (now (out .exit) ≡ sets (now (out .entry)) at (lastLine ticks rest)) × (r ≡ at + length (lastLine ticks rest))) × (r ≤ at + 64) ⌝ }
+{
+    if left == 0 {
+        return put_clean(ticks, out, at);
+    }
+    put_refusal(13, ticks, out, at)
+}
+
+// A text opened: the watch, the place behind the first line, and whether that line is the whole sheet.
+pub struct Begun {
+    pub watch: Watch,
+    pub at: usize,
+    pub ended: bool,
+}
+
+// The line of an opening.
+fn put_first(outcome: Outcome, out: &mut [u8]) -> usize
+    ensures { λ r. ⌜ (now (out .exit) ≡ sets (now (out .entry)) 0 (outcomeLine outcome)) × (r ≡ length (outcomeLine outcome)) × (r ≤ 128) ⌝ }
+{
+    match outcome {
+        Outcome::AtByte(number, place) => put_refusal(number, place as u64, out, 0),
+        Outcome::AtLetter(number, monitor, letter) => put_refusal_at(
+            number,
+            monitor as u64,
+            letter as u64,
+            out,
+            0,
+        ),
+        Outcome::Open(rows, letters) => put_counts(rows as u64, letters as u64, out, 0),
+    }
+}
+
+// Whether a text was turned away.
+fn refused(outcome: Outcome) -> bool
+    ensures { λ r. ⌜ r ≡ refusedOutcome outcome ⌝ }
+{
+    match outcome {
+        Outcome::AtByte(_, _) => true,
+        Outcome::AtLetter(_, _, _) => true,
+        Outcome::Open(_, _) => false,
+    }
+}
+
+// Opens a rule text and prints the sheet's first line, as far as the range reaches.
+pub fn begin(text: &[u8], out: &mut [u8]) -> Begun
+    ensures { λ r. ⌜ (now (out .exit) ≡ sets (now (out .entry)) 0 (firstLine (openText (now (text .entry))))) × (r .at ≡ length (firstLine (openText (now (text .entry)))))
+        × (r .ended ≡ isRefused (openText (now (text .entry)))) × (r .watch ≡ watchOf (openText (now (text .entry)))) × (r .at ≤ 128) ⌝ }
+{
+    let start = open(text);
+    let outcome = start.outcome;
+    let watch = start.watch;
+    let at = put_first(outcome, out);
+    let ended = refused(outcome);
+    Begun { watch, at, ended }
+}
+
+// Runs a watch over records, and prints a line for each, as far as the range reaches. `before` is the word before them.
+pub fn run(watch: Watch, before: u64, records: &[u8], out: &mut [u8]) -> Ran
+    ensures { λ r. ⌜ (run (r .watch) (r .before) ≡ runOver (run watch before) (now (records .entry)) .after)
+        × (drop (r .used) (now (records .entry)) ≡ runOver (run watch before) (now (records .entry)) .left)
+        × (r .ended ≡ runOver (run watch before) (now (records .entry)) .ended)
+        × (now (out .exit) ≡ sets (now (out .entry)) 0 (runOver (run watch before) (now (records .entry)) .printed))
+        × (r .at ≡ length (runOver (run watch before) (now (records .entry)) .printed))
+        × (r .used ≤ length (now (records .entry))) ⌝ }
+{
+    run_from(watch, before, records, out, 0)
+}
+
+// Prints the last line after so many ticks, where no more bytes come and so many are left.
+pub fn finish(ticks: u64, left: usize, out: &mut [u8]) -> usize
+    ensures { λ r. ⌜ ((rest : List ℕ) → left ≡ length rest → (now (out .exit) ≡ sets (now (out .entry)) 0 (lastLine ticks rest)) × (r ≡ length (lastLine ticks rest))) ⌝ }
+{
+    put_last(ticks, left, out, 0)
+}
+
+// Prints the sheet into a range, as far as it reaches, and tells the sheet's length.
+fn print(text: &[u8], records: &[u8], out: &mut [u8]) -> usize
+    ensures { λ r. ⌜ (now (out .exit) ≡ sets (now (out .entry)) 0 (sheet (now (text .entry)) (now (records .entry)))) × (r ≡ length (sheet (now (text .entry)) (now (records .entry)))) × (r ≤ 192 + 64 * min (length (now (records .entry))) 1000000) ⌝ }
+{
+    let begun = begin(text, out);
+    if begun.ended {
+        return begun.at;
+    }
+    let watch = begun.watch;
+    let ran = run_from(watch, 0, records, out, begun.at);
+    if ran.ended {
+        return ran.at;
+    }
+    let last = ran.watch;
+    put_last(last.ticks, records.len() - ran.used, out, ran.at)
+}
+
+// Whether a range surely has room for the sheet of so many bytes of records, however they are: then one pass does.
+fn surely_fits(records: usize, room: usize) -> bool
+    ensures { λ r. ⌜ r ≡ leb (192 + 64 * min records 1000000) room ⌝ }
+{
+    if records < 1000000 {
+        return 192 + 64 * records <= room;
+    }
+    64000192 <= room
+}
+
+// Prints the sheet of a rule text and a trace into a lent range: the sheet's length, or 0 and an untouched range if that is too short.
+#[no_mangle]
+pub extern "C" fn linewatch_sheet(text: &[u8], records: &[u8], sheet: &mut [u8]) -> usize
+    ensures { λ r. ⌜ (r ≡ lentLength (now (text .entry)) (now (records .entry)) (now (sheet .entry))) × (now (sheet .exit) ≡ lentSheet (now (text .entry)) (now (records .entry)) (now (sheet .entry)) .list) ⌝ }
+{
+    if surely_fits(records.len(), sheet.len()) {
+        return print(text, records, sheet);
+    }
+    let mut none = [0u8; 1];
+    let long = print(text, records, &mut none[0..0]);
+    if sheet.len() < long {
+        return 0;
+    }
+    print(text, records, sheet)
+}
+
+// The record of a word, for C: `trace`'s.
+#[no_mangle]
+pub extern "C" fn linewatch_write_record(before: u64, word: u64, out: &mut [u8]) -> usize
+    ensures { λ r. ⌜ (r ≡ numberOrZero (lend (written before word) (now (out .entry)) .answer)) × (now (out .exit) ≡ lend (written before word) (now (out .entry)) .list) ⌝ }
+{
+    trace::write_record(before, word, out).or_zero()
+}
