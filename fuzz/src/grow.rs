@@ -1,0 +1,286 @@
+//! Cases grown from the grammar: declarations, productions and monitors at random, most of them such that the shape rules are kept; then, for some, a
+//! token put in another's place or bytes damaged; and a trace that follows the rules for a while and then leaves them.
+
+use crate::random::Random;
+use crate::{record, Case};
+use second::{Answer, Watch};
+
+struct Input {
+    name: String,
+    width: u32,
+}
+
+struct Grown {
+    text: String,
+    inputs: Vec<Input>,
+    stores: Vec<(String, u32)>,
+    defines: Vec<String>,
+    productions: Vec<String>,
+}
+
+fn width(random: &mut Random) -> u32 {
+    match random.below(8) {
+        0..=3 => 1,
+        4 | 5 => 2,
+        6 => 3,
+        _ => 1 + random.below(20) as u32,
+    }
+}
+
+fn number(random: &mut Random, width: u32) -> u64 {
+    if random.once_in(40) {
+        return random.next() >> random.below(64);
+    }
+    random.next() & ((1u64 << width.min(63)) - 1)
+}
+
+impl Grown {
+    /// An input, mostly one as wide as is asked for.
+    fn input_of(&self, random: &mut Random, width: u32) -> &Input {
+        let fitting: Vec<&Input> = self.inputs.iter().filter(|i| i.width == width).collect();
+        if fitting.is_empty() || random.once_in(20) {
+            return random.pick(&self.inputs);
+        }
+        fitting[random.below(fitting.len())]
+    }
+
+    fn literal(&self, random: &mut Random) -> String {
+        let input = random.pick(&self.inputs);
+        if !self.stores.is_empty() && random.once_in(6) {
+            let (store, width) = random.pick(&self.stores);
+            return if random.once_in(2) {
+                format!("{store} == {}", number(random, *width))
+            } else {
+                format!("{} == {store}", self.input_of(random, *width).name)
+            };
+        }
+        if !self.defines.is_empty() && random.once_in(8) {
+            return random.pick(&self.defines).clone();
+        }
+        let bang = if random.once_in(2) { "!" } else { "" };
+        match random.below(4) {
+            0 if input.width == 1 => format!("{bang}{}", input.name),
+            1 => {
+                let beyond = usize::from(random.once_in(30));
+                format!("{bang}{}[{}]", input.name, random.below(input.width as usize + beyond))
+            }
+            _ if input.width == 1 => format!("{bang}{}", input.name),
+            _ => format!("{} == {}", input.name, number(random, input.width)),
+        }
+    }
+
+    fn letter(&self, random: &mut Random) -> String {
+        let mut letter = self.literal(random);
+        while random.once_in(3) {
+            letter += &format!(" & {}", self.literal(random));
+        }
+        if !self.stores.is_empty() && random.once_in(3) {
+            letter += " {";
+            loop {
+                let (store, width) = random.pick(&self.stores);
+                if random.once_in(2) {
+                    letter += &format!(" {store} <- {};", number(random, *width));
+                } else {
+                    letter += &format!(" {store} <- {};", self.input_of(random, *width).name);
+                }
+                if !random.once_in(3) {
+                    break;
+                }
+            }
+            letter += " }";
+        }
+        letter
+    }
+
+    /// One of `parts` letters that exclude each other by the values of one field or wire, with what is asked beside it.
+    fn exclusive(&self, random: &mut Random, input: &Input, value: u64) -> String {
+        let test = if input.width == 1 {
+            format!("{}{}", if value == 0 { "!" } else { "" }, input.name)
+        } else {
+            format!("{} == {value}", input.name)
+        };
+        if random.once_in(4) {
+            format!("{test} & {}", self.letter(random))
+        } else {
+            test
+        }
+    }
+
+    fn expression(&self, random: &mut Random, depth: usize) -> String {
+        if depth == 0 {
+            if !self.productions.is_empty() && random.once_in(3) {
+                return random.pick(&self.productions).clone();
+            }
+            return self.letter(random);
+        }
+        let input = random.pick(&self.inputs);
+        let one = random.below(1 << input.width.min(4)) as u64;
+        let other = if input.width == 1 { 1 - one } else { (one + 1) & ((1 << input.width.min(4)) - 1) };
+        match random.below(9) {
+            0 | 1 => format!("{}, {}", self.expression(random, depth - 1), self.expression(random, depth - 1)),
+            2 => format!("{} || {}", self.expression(random, depth - 1), self.expression(random, depth - 1)),
+            3 => {
+                let (a, b) = (self.exclusive(random, input, one), self.exclusive(random, input, other));
+                format!("({a} || {b}, {})", self.expression(random, depth - 1))
+            }
+            4 => {
+                let (a, b) = (self.exclusive(random, input, one), self.exclusive(random, input, other));
+                format!("({a})*, {b}")
+            }
+            5 => {
+                let (a, b) = (self.exclusive(random, input, one), self.exclusive(random, input, other));
+                format!("(({a}) @ ({}) || {b})", self.expression(random, depth - 1))
+            }
+            6 => format!("({})", self.expression(random, depth - 1)),
+            7 => format!("({})*", self.expression(random, depth - 1)),
+            _ => format!("({}) @ ({})", self.expression(random, depth - 1), self.expression(random, depth - 1)),
+        }
+    }
+}
+
+fn text(random: &mut Random) -> String {
+    let mut g = Grown { text: String::new(), inputs: Vec::new(), stores: Vec::new(), defines: Vec::new(), productions: Vec::new() };
+    let limit = random.once_in(60);
+    for i in 0..1 + random.below(if limit { 70 } else { 4 }) {
+        let w = width(random);
+        let name = format!("w{i}");
+        g.text += &if w == 1 && !random.once_in(8) { format!("input {name};\n") } else { format!("input {name}[{}:0];\n", w - 1) };
+        g.inputs.push(Input { name, width: w });
+    }
+    for i in 0..random.below(if limit { 20 } else { 3 }) {
+        let w = if random.once_in(3) { width(random) } else { g.inputs[random.below(g.inputs.len())].width };
+        let value = number(random, w);
+        g.text += &if w == 1 { format!("internal s{i} = {value};\n") } else { format!("internal s{i}[{}:0] = {value};\n", w - 1) };
+        g.stores.push((format!("s{i}"), w));
+    }
+    for i in 0..random.below(3) {
+        let mut body = g.literal(random);
+        while random.once_in(2) {
+            body += &format!(" & {}", g.literal(random));
+        }
+        g.text += &format!("define d{i} = {body};\n");
+        g.defines.push(format!("d{i}"));
+    }
+    for i in 0..1 + random.below(if limit { 130 } else { 4 }) {
+        let depth = random.below(4);
+        let body = g.expression(random, depth);
+        g.text += &format!("p{i} -> {body};\n");
+        g.productions.push(format!("p{i}"));
+    }
+    if random.once_in(40) {
+        for i in 0..1 + random.below(9) {
+            let last = g.productions.last().expect("there is one").clone();
+            g.text += &format!("q{i} -> {last}, {last};\n");
+            g.productions.push(format!("q{i}"));
+        }
+    }
+    let mut listed = vec![g.productions.last().expect("there is one").clone()];
+    while random.once_in(3) || (limit && listed.len() < 40 && !random.once_in(20)) {
+        listed.push(random.pick(&g.productions).clone());
+    }
+    g.text += &format!("monitor {};\n", listed.join(", "));
+    g.text
+}
+
+const TOKENS: &[&str] = &[
+    ";", ",", "@", "*", "&", "!", "(", ")", "[", "]", "{", "}", ":", "=", "==", "||", "->", "<-", "input", "internal", "define", "monitor", "w0", "w1", "s0", "d0", "p0", "x", "0", "1",
+    "7", "18446744073709551615", "18446744073709551616", "a_name_of_sixteen", "|", "#",
+];
+
+/// Another token in the place of one, a token more, or one less.
+fn tokens_changed(random: &mut Random, text: &str) -> String {
+    let mut parts: Vec<String> = Vec::new();
+    let mut rest = text;
+    while !rest.is_empty() {
+        let first = rest.chars().next().expect("it is not empty");
+        let end = if first.is_ascii_alphanumeric() || first == '_' {
+            rest.find(|c: char| !c.is_ascii_alphanumeric() && c != '_').unwrap_or(rest.len())
+        } else {
+            1
+        };
+        parts.push(rest[..end].to_string());
+        rest = &rest[end..];
+    }
+    for _ in 0..1 + random.below(2) {
+        let at = random.below(parts.len());
+        match random.below(3) {
+            0 => parts[at] = (*random.pick(TOKENS)).to_string(),
+            1 => parts.insert(at, format!(" {} ", random.pick(TOKENS))),
+            _ => {
+                parts.remove(at);
+            }
+        }
+        if parts.is_empty() {
+            break;
+        }
+    }
+    parts.concat()
+}
+
+fn damaged(random: &mut Random, mut bytes: Vec<u8>) -> Vec<u8> {
+    for _ in 0..1 + random.below(3) {
+        if bytes.is_empty() {
+            break;
+        }
+        let at = random.below(bytes.len());
+        match random.below(3) {
+            0 => bytes[at] = random.next() as u8,
+            1 => {
+                bytes.remove(at);
+            }
+            _ => bytes.insert(at, random.next() as u8),
+        }
+    }
+    bytes
+}
+
+/// Words that keep the rules as long as one is found quickly, and a few more at random.
+fn words(random: &mut Random, text: &[u8]) -> Vec<u64> {
+    let mut words = Vec::new();
+    let Ok(program) = second::open(text) else {
+        return vec![random.next(); random.below(3)];
+    };
+    let mask = if program.wires() == 64 { u64::MAX } else { (1 << program.wires()) - 1 };
+    let mut watch = Watch::new(&program);
+    let long = random.below(60);
+    'ticks: while words.len() < long {
+        for _ in 0..40 {
+            let word = random.next() & mask & if random.once_in(3) { random.next() } else { u64::MAX };
+            let mut next = watch.clone();
+            if next.tick(word) == Answer::Ok {
+                watch = next;
+                words.push(word);
+                continue 'ticks;
+            }
+        }
+        break;
+    }
+    for _ in 0..random.below(4) {
+        words.push(random.next() & if random.once_in(6) { u64::MAX } else { mask });
+    }
+    words
+}
+
+pub fn case(random: &mut Random) -> Case {
+    let mut text = text(random).into_bytes();
+    if random.once_in(4) {
+        text = tokens_changed(random, &String::from_utf8(text).expect("a grown text is ASCII")).into_bytes();
+    }
+    if random.once_in(12) {
+        text = damaged(random, text);
+    }
+    if random.once_in(50) {
+        let length = 16_380 + random.below(8);
+        text.resize(length.max(text.len()), b' ');
+    }
+    let mut trace = Vec::new();
+    let mut before = 0;
+    for word in words(random, &text) {
+        trace.extend(record(before, word));
+        before = word;
+    }
+    if random.once_in(6) {
+        trace = damaged(random, trace);
+    }
+    Case { text, trace }
+}
