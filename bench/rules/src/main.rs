@@ -76,45 +76,36 @@ const SAMPLE: &[u8] = b"input SCAN;\ninput CUT;\nline -> SCAN @ (CUT || !CUT, CU
 
 const SMALLEST: &[u8] = b"input a;p->a;monitor p;";
 
-/// Eight productions, each joining the one before to itself.
-fn doublings() -> Vec<u8> {
-    let mut text = b"input a; p0 -> a;".to_vec();
-    for i in 1..9 {
-        text.extend(format!(" p{i} -> p{}, p{};", i - 1, i - 1).bytes());
-    }
-    text.extend(b" monitor p8;");
-    text
+/// A text of a front, parts and a back.
+fn text(front: &str, parts: impl Iterator<Item = String>, back: &str) -> Vec<u8> {
+    let mut text = String::from(front);
+    text.extend(parts);
+    text += back;
+    text.into_bytes()
 }
 
-/// 126 productions that no monitor uses, over the whole length of a text.
+/// Eight productions, each joining the one before to itself.
+fn doublings() -> Vec<u8> {
+    text("input a; p0 -> a;", (1..9).map(|i| format!(" p{i} -> p{}, p{};", i - 1, i - 1)), " monitor p8;")
+}
+
+/// 125 productions that no monitor uses, over the whole length of a text.
 fn unused() -> Vec<u8> {
-    let mut text = b"input a;\nlast -> a;\n".to_vec();
-    for i in 0..125 {
-        text.extend(format!("p{i:03} -> (a, !a)*, a || !a, ((a || !a), a @ (a, !a)), !a, a, a, a, a || !a, a, !a, !a, a, a, (a || !a, a), a, a, !a, a, a;\n").bytes());
-    }
-    text.extend(b"monitor last;\n");
+    const BODY: &str = "(a, !a)*, a || !a, ((a || !a), a @ (a, !a)), !a, a, a, a, a || !a, a, !a, !a, a, a, (a || !a, a), a, a, !a, a, a";
+    let mut text = text("input a;\nlast -> a;\n", (0..125).map(|i| format!("p{i:03} -> {BODY};\n")), "monitor last;\n");
     text.resize(16_384, b' ');
     text
 }
 
-/// 255 letters in a chain, each test a field of eight wires.
+/// 256 letters in a chain, each test a field of eight wires.
 fn fields() -> Vec<u8> {
-    let mut text = b"input WIDE_FIELD_NAME[7:0];\nchain -> WIDE_FIELD_NAME == 0".to_vec();
-    for i in 1..256 {
-        text.extend(format!(",\n    WIDE_FIELD_NAME == 000000000000000000000000000000{i:03}").bytes());
-    }
-    text.extend(b";\nmonitor chain;\n");
-    text
+    let letters = (1..256).map(|i| format!(",\n    WIDE_FIELD_NAME == 000000000000000000000000000000{i:03}"));
+    text("input WIDE_FIELD_NAME[7:0];\nchain -> WIDE_FIELD_NAME == 0", letters, ";\nmonitor chain;\n")
 }
 
-/// A star over each of 255 letters but the last: as many rows as such a chain has.
+/// A star over each of 256 letters but the last: as many rows as such a chain has.
 fn starred() -> Vec<u8> {
-    let mut text = b"input F[7:0];\nchain -> ".to_vec();
-    for i in 0..255 {
-        text.extend(format!("(F == {i})*, ").bytes());
-    }
-    text.extend(b"F == 255;\nmonitor chain;\n");
-    text
+    text("input F[7:0];\nchain -> ", (0..255).map(|i| format!("(F == {i})*, ")), "F == 255;\nmonitor chain;\n")
 }
 
 fn main() {

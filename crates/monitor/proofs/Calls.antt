@@ -4,7 +4,7 @@ use mathlib.Core.Bool.{true}
 use mathlib.Core.Option.{Option, none}
 use mathlib.Core.Logic.{⊎-elim}
 use mathlib.Core.List.{List, [], _∷_, map}
-use Prim.Native.Nat.{ℕ, zero, suc, _+_, _*_, _<_, _≤_}
+use Prim.Native.Nat.{ℕ, zero, suc, _+_, _<_, _≤_}
 use native.Mathlib.Omega.{arith}
 use lib.Dec.{T}
 use lib.ListN.{length, getD}
@@ -30,7 +30,7 @@ use Rattle.rules.specs.Cells.{Link}
 use Rattle.rules.specs.Laying.{slotWord, slotNumber, slotsOf}
 use Rattle.rules.specs.Watches.{watchOf}
 use Rattle.monitor.specs.Letters.{Given, letterMet, writeLetter}
-use Rattle.monitor.specs.Ticks.{steps, Layout, emptyMemory, stepWithin}
+use Rattle.monitor.specs.Ticks.{steps, stepWithin}
 use Rattle.monitor.specs.Calls.{Moving, givenOf, layoutOf, stateOf, repliesOf}
 use Rattle.monitor.proofs.Padded.{padded}
 use Rattle.monitor.proofs.Readable.{Readable, accepted-readable}

@@ -1,23 +1,23 @@
 -- What a walk leaves behind where it says yes: the letters of its way are marked, and no others. Assumes nothing.
-use mathlib.Core.Path.{_≡_, refl, sym, ap, _∙_, subst}
+use mathlib.Core.Path.{_≡_, refl, sym, ap, subst}
 use mathlib.Core.Bool.{Bool, true, false, cond}
 use mathlib.Core.List.{List, [], _∷_, _++_, append-nil}
 use mathlib.Core.Option.{Option, none, some}
 use mathlib.Core.Logic.{_⊎_, inl, inr, ⊎-elim}
 use Prim.Native.Nat.{ℕ, zero, suc, _+_, _-_, _<_, _≤_}
 use native.Mathlib.Omega.{arith}
-use lib.Dec.{eqb, ltb}
+use lib.Dec.{eqb}
 use lib.ListN.{length, getD}
 use Rattle.meaning.specs.Lists.{_∈_}
 use Rattle.meaning.specs.Expression.{Exp, size}
 use Rattle.meaning.specs.Fit.{Tick}
-use Rattle.meaning.specs.Positions.{Way, joined, Positions, at-start, on, goAll, go, Ticked, fine, wrong, goOn, withMore, goEach}
-use Rattle.meaning.proofs.Shifted.{shift, shiftAll, shiftPositions}
+use Rattle.meaning.specs.Positions.{Way, joined, Positions, at-start, on, goAll, go, Ticked, fine, wrong, goOn, goEach}
+use Rattle.meaning.proofs.Shifted.{shift, shiftAll}
 use Rattle.meaning.proofs.ListLaws.{append-∈, ∈-left, ∈-right, no-∈, clash}
 use Rattle.monitor.specs.Letters.{Given}
 use Rattle.monitor.specs.Walk.{Told, told, andThen, askM, leaveM}
 use Rattle.monitor.proofs.Memory.{found, Marked}
-use Rattle.monitor.specs.Ticks.{steps, Layout, letterGoes, lettersGo, startGoes, lettersEnd, monitorGoes, Reached, reached, reachedBy, monitorsGo}
+use Rattle.monitor.specs.Ticks.{steps, Layout, lettersGo, startGoes, monitorGoes, Reached, reached, reachedBy, monitorsGo}
 
 same-some : {ns ks : List ℕ} → some ns ≡ some ks → ns ≡ ks
 same-some e = cc e

@@ -2,9 +2,9 @@
 use mathlib.Core.Bool.{Bool, true, false}
 use mathlib.Core.List.{List}
 use mathlib.Core.Option.{Option, none, some}
-use mathlib.Core.Path.{_≡_, refl}
+use mathlib.Core.Path.{_≡_}
 use mathlib.Core.Logic.{_⊎_}
-use Prim.Native.Nat.{ℕ, zero, suc, _+_, _<_, _≤_}
+use Prim.Native.Nat.{ℕ, zero, _+_, _<_, _≤_}
 use native.Mathlib.Omega.{arith}
 use native.Mathlib.Decide.{decLt}
 use lib.Dec.{T}
@@ -13,6 +13,7 @@ use Rattle.meaning.specs.Lists.{_∈_}
 use Rattle.meaning.specs.Fit.{Tick}
 use Rattle.meaning.specs.Table.{Table, askRow, leaveRow}
 use Rattle.monitor.specs.Walk.{Told}
+use Rattle.monitor.proofs.Padded.{zeros-at}
 
 -- ---- ways
 
@@ -75,23 +76,17 @@ pub record Answers (K : List ℕ → Type 0) (a : Option (List ℕ)) (s : Bool) 
 
 -- ---- the empty memory
 
--- an element of it, or past its end
-zeros : (m i : ℕ) → _≡_ {A = ℕ} (getD (replicate m 0) i 0) 0
-zeros zero i = refl
-zeros (suc m) zero = refl
-zeros (suc m) (suc i) = zeros m i
-
 -- nothing is known, so all of it is right
 pub memory-empty : (W : Ways) (n : ℕ) → Memory W n (replicate 2304 0)
 memory-empty W n = record {
   long = length-replicate {A = ℕ} 2304 0;
-  answers = λ q r h. rw (zeros 2304 (base q + r)) (record { no-way = λ z. absurd (omega arith); way = λ z. absurd (omega arith); way-marked = λ z. absurd (omega arith); few = omega arith });
-  bits = λ l h. rw (zeros 2304 (2048 + l)) (omega arith);
+  answers = λ q r h. rw (zeros-at 2304 (base q + r)) (record { no-way = λ z. absurd (omega arith); way = λ z. absurd (omega arith); way-marked = λ z. absurd (omega arith); few = omega arith });
+  bits = λ l h. rw (zeros-at 2304 (2048 + l)) (omega arith);
 }
 
 -- and nothing is marked
 pub empty-unmarked : (l : ℕ) → Marked (replicate 2304 0) l → ⊥
-empty-unmarked l m = omega (arith, zeros 2304 (2048 + l))
+empty-unmarked l m = omega (arith, zeros-at 2304 (2048 + l))
 
 -- ---- marks
 

@@ -1,5 +1,5 @@
 -- Each monitor of a program goes, over its rows in a watch, as its positions do in the meaning. Assumes nothing.
-use mathlib.Core.Path.{_≡_, refl, sym, ap, _∙_, subst}
+use mathlib.Core.Path.{_≡_, refl, sym, _∙_, subst}
 use mathlib.Core.Bool.{Bool, true, false}
 use mathlib.Core.List.{List, [], _∷_}
 use mathlib.Core.Option.{Option}
@@ -12,18 +12,17 @@ use lib.ListN.{length, getD}
 use Rattle.meaning.specs.Lists.{_∈_}
 use Rattle.meaning.specs.Expression.{Letter, Exp, star, letters, size, rows, renumbered, Ordered}
 use Rattle.meaning.specs.Fit.{Tick}
-use Rattle.meaning.specs.Positions.{Way, stuck, ask, leave, Positions, at-start, on, goAll, go}
+use Rattle.meaning.specs.Positions.{stuck, ask, leave, Positions, at-start, on, go}
 use Rattle.meaning.specs.Table.{Table, Holds, askRow, leaveRow}
 use Rattle.meaning.proofs.ListLaws.{here, there}
 use Rattle.meaning.proofs.Step.{Solid}
-use Rattle.meaning.proofs.OneWay.{Numbered, Has}
 use Rattle.meaning.proofs.Ends.{AskEnds, LeaveEnds}
 use Rattle.meaning.proofs.Walk.{top-asks, letter-leaves}
 use Rattle.meaning.proofs.Numbering.{renumbered-size, renumbered-rows, renumbered-ordered, numbered}
 use Rattle.meaning.proofs.Shifted.{shift, shiftPositions, go-renumbered, renumbered-solid}
 use Rattle.monitor.specs.Letters.{Given}
-use Rattle.monitor.specs.Walk.{andThen, askM, leaveM}
-use Rattle.monitor.specs.Ticks.{steps, Layout, lettersEnd, lettersGo, startGoes, monitorGoes}
+use Rattle.monitor.specs.Walk.{askM, leaveM}
+use Rattle.monitor.specs.Ticks.{steps, Layout, lettersEnd, monitorGoes}
 use Rattle.monitor.proofs.Going.{Goes, MarksAre, goBy, both-go, AllGo}
 use Rattle.monitor.proofs.Moves.{Counted, letters-long, ordered-counted, MarksAll}
 

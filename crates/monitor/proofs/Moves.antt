@@ -2,13 +2,13 @@
 use mathlib.Core.Path.{_≡_, refl, sym, ap, ap₂, _∙_, subst}
 use mathlib.Core.Bool.{Bool, true, false, not, cond}
 use mathlib.Core.List.{List, [], _∷_, _++_, append-assoc}
-use mathlib.Core.Logic.{_⊎_, inl, inr, ⊎-elim}
+use mathlib.Core.Logic.{_⊎_, ⊎-elim}
 use Prim.Native.Nat.{ℕ, zero, suc, _+_, _<_, _≤_}
 use native.Mathlib.Omega.{arith}
 use lib.Dec.{T, eqb, eqb→eq, eqb-refl}
-use lib.ListN.{length, length-append, getD, set, length-set}
+use lib.ListN.{length, length-append, getD}
 use Rattle.meaning.specs.Lists.{_∈_, each, carry, only, member, total}
-use Rattle.meaning.specs.Expression.{Letter, Write, from-wire, from-number, Exp, letter, seq, alt, star, pipe, letters, size, Ordered}
+use Rattle.meaning.specs.Expression.{Letter, Exp, letter, seq, alt, star, pipe, letters, size, Ordered}
 use Rattle.meaning.specs.Fit.{Tick, write, writeMet}
 use Rattle.meaning.specs.Positions.{Positions, kept, keptEach, writeEach}
 use Rattle.meaning.proofs.ListLaws.{here, there, clash, no-∈, append-∈, ∈-left, ∈-right, map-∈, ∈-map, any-from, any-to}
@@ -16,6 +16,7 @@ use Rattle.meaning.proofs.Monitor.{same-test}
 use Rattle.meaning.proofs.Shifted.{shiftAll, shiftPositions}
 use Rattle.monitor.specs.Letters.{Given, writeLetter}
 use Rattle.monitor.specs.Ticks.{writeIf, writeMarked}
+use Rattle.monitor.proofs.LetterTests.{writes-length}
 use Rattle.monitor.proofs.Going.{markedFrom, MarksAre, spread}
 
 -- ---- letters in reading order
@@ -75,11 +76,6 @@ module _ (K : List ℕ) (l : ℕ) (ns : List ℕ) where
 
 -- ---- one monitor's writes
 
-pub written-long : (t : Tick) (σ : List ℕ) (ws : List Write) → length (carry (write t) σ ws) ≡ length σ
-written-long t σ [] = refl
-written-long t σ (from-wire s lo width ∷ ws) = written-long t (write t σ (from-wire s lo width)) ws ∙ length-set σ s _
-written-long t σ (from-number s v ∷ ws) = written-long t (write t σ (from-number s v)) ws ∙ length-set σ s v
-
 -- the writes of letters that were met, as `writeMet` has them
 abbrev pub writesOf : Tick → (ns : List ℕ) → List ℕ → Letter → List ℕ
 writesOf t ns σ x = cond (member (x .number) ns) (carry (write t) σ (x .writes)) σ
@@ -97,7 +93,7 @@ module _ (g : Given) (t : Tick) (K : List ℕ) (l : ℕ) (ns : List ℕ) (pad : 
       by : (b a : Bool) → b ≡ not a
           → (cond b (pad σ) (writeLetter g (l + x .number) (pad σ)) ≡ pad (cond a (carry (write t) σ (x .writes)) σ)) × (length (cond a (carry (write t) σ (x .writes)) σ) ≡ stores)
       by true false p = (refl, e)
-      by false true p = (h σ e, written-long t σ (x .writes) ∙ e)
+      by false true p = (h σ e, writes-length t (x .writes) σ ∙ e)
       by true true p = clash (cc p)
       by false false p = clash (cc p)
 

@@ -1,6 +1,6 @@
 -- The store values of a watch: those of the meaning, with zeros behind them. Assumes nothing.
 use mathlib.Core.Path.{_≡_, refl, sym, ap, _∙_}
-use mathlib.Core.List.{List, [], _∷_, _++_}
+use mathlib.Core.List.{List, _++_}
 use Prim.Native.Nat.{ℕ, zero, suc, _+_, _-_, _≤_, _<_}
 use native.Mathlib.Omega.{arith}
 use native.Mathlib.Nat.{zero-add}
@@ -12,10 +12,11 @@ use lib.Seq.{sets, sets-eq, set-append-left, getD-append-add, getD-drop}
 abbrev pub padded : List ℕ → List ℕ
 padded σ = sets (replicate 16 0) 0 σ
 
-zeros : (n i : ℕ) → _≡_ {A = ℕ} (getD (replicate n 0) i 0) 0
-zeros zero i = refl
-zeros (suc n) zero = refl
-zeros (suc n) (suc i) = zeros n i
+-- an element of zeros, or past their end
+pub zeros-at : (n i : ℕ) → _≡_ {A = ℕ} (getD (replicate n 0) i 0) 0
+zeros-at zero i = refl
+zeros-at (suc n) zero = refl
+zeros-at (suc n) (suc i) = zeros-at n i
 
 module _ (σ : List ℕ) (few : length σ ≤ 16) where
   padding : padded σ ≡ σ ++ drop (length σ) (replicate 16 0)
@@ -30,7 +31,7 @@ module _ (σ : List ℕ) (few : length σ ≤ 16) where
         ap (λ (i : ℕ). getD (σ ++ drop (length σ) (replicate 16 0)) i 0) e
         ∙ getD-append-add σ (drop (length σ) (replicate 16 0)) (s - length σ) 0
         ∙ getD-drop (length σ) (replicate 16 0) (s - length σ) 0
-        ∙ zeros 16 (length σ + (s - length σ))
+        ∙ zeros-at 16 (length σ + (s - length σ))
         ∙ sym (List·getD-eq-default σ 0 (omega arith))
   ]
 

@@ -1,23 +1,21 @@
 -- A list of tick calls on one watch: 16, 17, 15 and the verdicts are those of what moves in it. Assumes nothing.
 use mathlib.Core.Path.{_≡_, refl, sym, ap, ap₂, _∙_, subst}
-use mathlib.Core.Bool.{Bool, true, false, cond}
-use mathlib.Core.List.{List, [], _∷_, map}
-use mathlib.Core.Option.{Option, none, some}
-use Prim.Native.Nat.{ℕ, zero, suc, _+_, _<_, _≤_, min}
+use mathlib.Core.Bool.{Bool, cond}
+use mathlib.Core.List.{List, [], _∷_}
+use Prim.Native.Nat.{ℕ, _≤_, min}
 use native.Mathlib.Omega.{arith}
-use lib.Dec.{T, eqb, ltb}
+use lib.Dec.{T, ltb}
 use borrow.Author.Tests.{le-ltb, lt-ltb}
-use lib.ListN.{length, getD}
-use Rattle.meaning.specs.Lists.{_∈_, total}
-use Rattle.meaning.specs.Expression.{Exp, size, star, Ordered}
-use Rattle.meaning.specs.Fit.{Tick, Verdict, ok, bad}
+use lib.ListN.{length}
+use Rattle.meaning.specs.Expression.{Exp}
+use Rattle.meaning.specs.Fit.{Tick, ok, bad}
 use Rattle.meaning.specs.Positions as machine
 use Rattle.meaning.specs.Calls.{State, reply, after, repliesFrom}
 use Rattle.meaning.proofs.ListLaws.{clash}
 use Rattle.meaning.proofs.Calls.{same-replies}
 use Rattle.rules.specs.declared.Watch.{Watch}
-use Rattle.monitor.specs.Ticks.{Layout, layout, within, Move, stepWithin, stepOf, verdictOf}
-use Rattle.monitor.specs.Calls.{Moving, givenOf, layoutOf, stepFrom, judge, onward, stateOf, withState, replyOf, watchAfter, repliesOf}
+use Rattle.monitor.specs.Ticks.{Layout, layout, within, Move, stepWithin}
+use Rattle.monitor.specs.Calls.{Moving, givenOf, layoutOf, stepFrom, judge, onward, withState, replyOf, watchAfter, repliesOf}
 use Rattle.monitor.proofs.Moves.{MarksAll}
 use Rattle.monitor.proofs.Watching.{Steps}
 

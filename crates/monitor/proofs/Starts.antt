@@ -1,6 +1,6 @@
 -- Before tick 0: the marks of a newly opened watch are the monitors' starts; and the answers of a walk as what a monitor's way leaves behind. Assumes nothing.
 use mathlib.Core.Path.{_≡_, refl, sym, ap, ap₂, _∙_, subst}
-use mathlib.Core.Bool.{Bool, true, false, cond}
+use mathlib.Core.Bool.{Bool, true, cond}
 use mathlib.Core.List.{List, [], _∷_, _++_, map}
 use mathlib.Core.Option.{Option, none, some}
 use mathlib.Core.Logic.{_⊎_, inl, inr, ⊎-elim}
@@ -12,12 +12,12 @@ use lib.ListN.{length, getD, List·getD-append, take, drop, replicate, length-re
 use lib.Seq.{sets, sets-eq, length-take-le, getD-take, getD-append-add}
 use Rattle.meaning.specs.Lists.{_∈_, total}
 use Rattle.meaning.specs.Expression.{Exp, size}
-use Rattle.meaning.specs.Positions.{Positions, at-start}
+use Rattle.meaning.specs.Positions.{at-start}
 use Rattle.monitor.specs.Walk.{Told}
-use Rattle.monitor.proofs.Memory.{Ways, found, OnWay, Marked, Memory, Answers, marked-small}
-use Rattle.monitor.proofs.Going.{Exactly, Goes, markedFrom, MarksAre}
+use Rattle.monitor.proofs.Memory.{Ways, OnWay, Memory, Answers, marked-small}
+use Rattle.monitor.proofs.Going.{Goes, markedFrom}
 use Rattle.monitor.proofs.Moves.{MarksAll}
-use Rattle.monitor.proofs.Watching.{zeros-at}
+use Rattle.monitor.proofs.Padded.{zeros-at}
 
 -- ---- a right answer that marks its letters is what a monitor's way leaves behind
 

@@ -3,8 +3,8 @@ use mathlib.Core.Path.{_≡_, refl, sym, ap, ap₂, _∙_, subst}
 use mathlib.Core.Bool.{Bool, true, false, not, cond}
 use mathlib.Core.List.{List, [], _∷_, _++_}
 use mathlib.Core.Option.{Option, none, some}
-use mathlib.Core.Logic.{_⊎_, inl, inr, ⊎-elim}
-use Prim.Native.Nat.{ℕ, zero, suc, _+_, _*_, _-_, _<_, _≤_, min}
+use mathlib.Core.Logic.{_⊎_, ⊎-elim}
+use Prim.Native.Nat.{ℕ, zero, suc, _+_, _-_, _<_, _≤_}
 use native.Mathlib.Omega.{arith}
 use lib.Dec.{T, eqb, ltb}
 use borrow.Author.Tests.{le-ltb, lt-ltb, eq-eqb, ne-eqb}
@@ -12,17 +12,17 @@ use lib.ListN.{length, length-drop, getD, List·getD-append, take, drop, replica
 use lib.Seq.{sets, sets-eq, length-take-le, getD-take, getD-drop, getD-append-add}
 use Rattle.meaning.specs.Lists.{_∈_, total, member}
 use Rattle.meaning.specs.Expression.{Exp, size, Ordered}
-use Rattle.meaning.specs.Fit.{Tick, Verdict, ok, bad}
-use Rattle.meaning.specs.Positions.{Positions, go, Ticked, fine, wrong, goOn, withMore, goEach, told as verdictTold, keptEach, writeEach}
+use Rattle.meaning.specs.Fit.{Tick, bad}
+use Rattle.meaning.specs.Positions.{Positions, go, Ticked, fine, wrong, goOn, goEach, keptEach, writeEach}
 use Rattle.meaning.proofs.ListLaws.{here, there, no-∈, clash}
-use Rattle.meaning.proofs.OneWay.{Has}
 use Rattle.meaning.proofs.Numbering.{between}
 use Rattle.meaning.proofs.Sets.{go-inside}
 use Rattle.monitor.specs.Letters.{Given}
 use Rattle.monitor.specs.Ticks.{Layout, marksAfter, writeMarked, Reached, Move, move, emptyMemory, moveBy, monitorsGo, stepWithin}
+use Rattle.monitor.proofs.Padded.{zeros-at}
 use Rattle.monitor.proofs.Memory.{Marked}
 use Rattle.monitor.proofs.Going.{Exactly, AllGo, Went, monitors-go, spread}
-use Rattle.monitor.proofs.Moves.{AllInside, AllMarkedAs, all-marked, to-member, from-member, MarksAll, marks-all, AllWriteAs, writes-all}
+use Rattle.monitor.proofs.Moves.{AllInside, all-marked, to-member, from-member, MarksAll, marks-all, AllWriteAs, writes-all}
 
 -- ---- the letters met are each monitor's own
 
@@ -47,11 +47,6 @@ all-inside i l K (m ∷ ms) (x ∷ xs) t nss h o e =
     )
 
 -- ---- the marks after a tick
-
-pub zeros-at : (n k : ℕ) → _≡_ {A = ℕ} (getD (replicate n 0) k 0) 0
-zeros-at zero k = refl
-zeros-at (suc n) zero = refl
-zeros-at (suc n) (suc k) = zeros-at n k
 
 module _ (n : ℕ) (M : List ℕ) (few : n ≤ 256) (long : length M ≡ 2304) where
   marked-long : length (take n (drop 2048 M)) ≡ n

@@ -26,6 +26,7 @@ use Rattle.meaning.proofs.Openings.{rows-right, rows-fit}
 use Rattle.meaning.proofs.Rows.{rows-no-more}
 use Rattle.meaning.proofs.Walk.{a-row}
 use Rattle.sheet.specs.Lines.{okLine, badLine, firstLine}
+use Rattle.sheet.proofs.PageSteps.{hexadecimal-long}
 
 -- ---- numbers
 
@@ -45,11 +46,6 @@ digits-short (suc k) d n ds h = by d h (n / 10) refl (digits-short k)
 pub decimal-short : (n : ℕ) → n < 10 ^ 20 → length (decimal n) ≤ 20
 unfolding decimal
 decimal-short n h = omega (arith, digits-short n 19 n [] h)
-
-pub hexadecimal-long : (k w : ℕ) → length (hexadecimal k w) ≡ k
-unfolding hexadecimal
-hexadecimal-long zero w = refl
-hexadecimal-long (suc k) w = ap suc (hexadecimal-long k w)
 
 -- ---- lines
 

@@ -9,7 +9,7 @@ use Rattle.lexer.specs.Bytes.{bytes}
 use Rattle.meaning.specs.Answers.{byte, letterOf}
 use Rattle.meaning.specs.Sheet.{decimal, hexadecimal, line, refusalLine, cleanLine}
 use Rattle.sheet.specs.Lines.{okLine, badLine, tickFront}
-use Rattle.sheet.proofs.PageSteps.{Put, put-two, word-length}
+use Rattle.sheet.proofs.PageSteps.{Put, put-two, hexadecimal-long}
 
 -- xs are put at a place, and are at most m bytes
 abbrev Line : (o : List ℕ) (a : ℕ) (xs o′ : List ℕ) (a′ m : ℕ) → Type 0
@@ -76,7 +76,7 @@ pub tick-put : (t w : ℕ) {o o₁ o₂ o₃ o₄ : List ℕ} {a a₁ a₂ a₃ 
     → Put o a (decimal t) o₁ a₁ → Put o₁ a₁ (32 ∷ []) o₂ a₂ → Put o₂ a₂ (hexadecimal 16 w) o₃ a₃ → Put o₃ a₃ (32 ∷ []) o₄ a₄ → length (decimal t) ≤ 20
     → Line o a (tickFront t w) o₄ a₄ 38
 tick-put t w {o} {o₁} {o₂} {o₃} {o₄} {a} {a₁} {a₂} {a₃} {a₄} p₁ p₂ p₃ p₄ l₁ =
-    as-line o a _ _ o₄ a₄ 38 (refl) (put-two p₁ (put-two p₂ (put-two p₃ p₄))) (omega (arith, word-length 16 w, length-append (decimal t) ((32 ∷ []) ++ ((hexadecimal 16 w) ++ (32 ∷ []))), length-append (32 ∷ []) ((hexadecimal 16 w) ++ (32 ∷ [])), length-append (hexadecimal 16 w) (32 ∷ [])))
+    as-line o a _ _ o₄ a₄ 38 (refl) (put-two p₁ (put-two p₂ (put-two p₃ p₄))) (omega (arith, hexadecimal-long 16 w, length-append (decimal t) ((32 ∷ []) ++ ((hexadecimal 16 w) ++ (32 ∷ []))), length-append (32 ∷ []) ((hexadecimal 16 w) ++ (32 ∷ [])), length-append (hexadecimal 16 w) (32 ∷ [])))
 
 pub ok-put : (t w : ℕ) {o o₁ o₂ : List ℕ} {a a₁ a₂ : ℕ}
     → Put o a (tickFront t w) o₁ a₁ → Put o₁ a₁ (bytes "ok\n") o₂ a₂ → length (tickFront t w) ≤ 38

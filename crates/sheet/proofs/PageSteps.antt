@@ -144,10 +144,10 @@ decimal-put n at place r digits o o′ e l p q =
 
 -- ---- words
 
-pub word-length : (k w : ℕ) → length (hexadecimal k w) ≡ k
+pub hexadecimal-long : (k w : ℕ) → length (hexadecimal k w) ≡ k
 unfolding hexadecimal
-word-length zero w = refl
-word-length (suc k) w = ap suc (word-length k w)
+hexadecimal-long zero w = refl
+hexadecimal-long (suc k) w = ap suc (hexadecimal-long k w)
 
 word-digit : (k w : ℕ) → 0 < k → hexadecimal k w ≡ hexDigit (w / 2 ^ (4 * (k - 1)) % 16) ∷ hexadecimal (k - 1) w
 unfolding hexadecimal
