@@ -1,7 +1,8 @@
-// Links the static library of the crate `sheet`, from the folder that `run` names.
+// Links the program with the static library of the crate `sheet`, from the folder that `run` names. The tests need none.
 fn main() {
-    println!("cargo:rustc-link-search=native={}", std::env::var("STATICLIB").unwrap());
-    println!("cargo:rustc-link-lib=static=sheet");
     println!("cargo:rerun-if-env-changed=STATICLIB");
-    println!("cargo:rerun-if-changed={}/libsheet.a", std::env::var("STATICLIB").unwrap());
+    if let Ok(folder) = std::env::var("STATICLIB") {
+        println!("cargo:rustc-link-arg-bins={folder}/libsheet.a");
+        println!("cargo:rerun-if-changed={folder}/libsheet.a");
+    }
 }

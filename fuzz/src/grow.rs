@@ -1,8 +1,11 @@
-//! Cases grown from the grammar: declarations, productions and monitors at random, most of them such that the shape rules are kept; then, for some, a
-//! token put in another's place or bytes damaged; and a trace that follows the rules for a while and then leaves them.
+//! Cases grown from the grammar: declarations, productions and monitors at random, most of them such that the shape rules are kept, or a text around a
+//! limit; then, for some, a token put in another's place or bytes damaged; and a trace that follows the rules for a while and then leaves them, or whose
+//! last record is torn, has an idle byte or a bit above the wires.
 
+use crate::compare::record;
+use crate::limits;
 use crate::random::Random;
-use crate::{record, Case};
+use crate::Case;
 use second::{Answer, Watch};
 
 struct Input {
@@ -29,9 +32,9 @@ fn width(random: &mut Random) -> u32 {
 
 fn number(random: &mut Random, width: u32) -> u64 {
     if random.once_in(40) {
-        return random.next() >> random.below(64);
+        return random.word() >> random.below(64);
     }
-    random.next() & ((1u64 << width.min(63)) - 1)
+    random.word() & ((1u64 << width.min(63)) - 1)
 }
 
 impl Grown {
@@ -224,11 +227,11 @@ fn damaged(random: &mut Random, mut bytes: Vec<u8>) -> Vec<u8> {
         }
         let at = random.below(bytes.len());
         match random.below(3) {
-            0 => bytes[at] = random.next() as u8,
+            0 => bytes[at] = random.word() as u8,
             1 => {
                 bytes.remove(at);
             }
-            _ => bytes.insert(at, random.next() as u8),
+            _ => bytes.insert(at, random.word() as u8),
         }
     }
     bytes
@@ -238,14 +241,14 @@ fn damaged(random: &mut Random, mut bytes: Vec<u8>) -> Vec<u8> {
 fn words(random: &mut Random, text: &[u8]) -> Vec<u64> {
     let mut words = Vec::new();
     let Ok(program) = second::open(text) else {
-        return vec![random.next(); random.below(3)];
+        return vec![random.word(); random.below(3)];
     };
     let mask = if program.wires() == 64 { u64::MAX } else { (1 << program.wires()) - 1 };
     let mut watch = Watch::new(&program);
     let long = random.below(60);
     'ticks: while words.len() < long {
         for _ in 0..40 {
-            let word = random.next() & mask & if random.once_in(3) { random.next() } else { u64::MAX };
+            let word = random.word() & mask & if random.once_in(3) { random.word() } else { u64::MAX };
             let mut next = watch.clone();
             if next.tick(word) == Answer::Ok {
                 watch = next;
@@ -255,14 +258,55 @@ fn words(random: &mut Random, text: &[u8]) -> Vec<u64> {
         }
         break;
     }
-    for _ in 0..random.below(4) {
-        words.push(random.next() & if random.once_in(6) { u64::MAX } else { mask });
+    if random.once_in(2) {
+        for _ in 0..random.below(4) {
+            words.push(random.word() & if random.once_in(6) { u64::MAX } else { mask });
+        }
+    }
+    if program.wires() < 64 && random.once_in(8) {
+        words.push(words.last().unwrap_or(&0) | 1 << program.wires());
     }
     words
 }
 
+/// A map with too few bytes behind it.
+fn torn(random: &mut Random, before: u64) -> Vec<u8> {
+    let mut record = record(before, before ^ (random.word() | 1));
+    record.truncate(1 + random.below(record.len() - 1));
+    record
+}
+
+/// A record with a byte that is as it was, alone or among some that changed.
+fn idle(random: &mut Random, before: u64) -> Vec<u8> {
+    let unchanged = random.below(8);
+    let changed = if random.once_in(4) { 0 } else { random.word() as u8 & random.word() as u8 };
+    let map = changed | 1 << unchanged;
+    let mut record = vec![map];
+    for i in (0..8).filter(|i| map >> i & 1 == 1) {
+        record.push(before.to_le_bytes()[i] ^ u8::from(i != unchanged));
+    }
+    record
+}
+
+/// The trace of some words, for some with a last record that is refused.
+fn trace(random: &mut Random, words: &[u64]) -> Vec<u8> {
+    let mut trace = Vec::new();
+    let mut before = 0;
+    for &word in words {
+        trace.extend(record(before, word));
+        before = word;
+    }
+    match random.below(16) {
+        0 => trace.extend(torn(random, before)),
+        1 => trace.extend(idle(random, before)),
+        2 => trace = damaged(random, trace),
+        _ => (),
+    }
+    trace
+}
+
 pub fn case(random: &mut Random) -> Case {
-    let mut text = text(random).into_bytes();
+    let mut text = if random.once_in(10) { limits::text(random) } else { text(random) }.into_bytes();
     if random.once_in(4) {
         text = tokens_changed(random, &String::from_utf8(text).expect("a grown text is ASCII")).into_bytes();
     }
@@ -273,14 +317,51 @@ pub fn case(random: &mut Random) -> Case {
         let length = 16_380 + random.below(8);
         text.resize(length.max(text.len()), b' ');
     }
-    let mut trace = Vec::new();
-    let mut before = 0;
-    for word in words(random, &text) {
-        trace.extend(record(before, word));
-        before = word;
-    }
-    if random.once_in(6) {
-        trace = damaged(random, trace);
-    }
+    let words = words(random, &text);
+    let trace = trace(random, &words);
     Case { text, trace }
+}
+
+/// The first two words of a sheet's last line, or its first alone where the second is a count: what kind of sheet it is.
+pub fn kind(case: &Case) -> String {
+    let sheet = second::sheet(&case.text, &case.trace);
+    let last = sheet.split(|&b| b == b'\n').rev().nth(1).unwrap_or(&[]);
+    let words: Vec<String> = last.split(|&b| b == b' ').map(|w| String::from_utf8_lossy(w).into_owned()).collect();
+    match words[0].as_str() {
+        "refused" => format!("refused {}", words[1]),
+        "clean" => String::from("clean"),
+        _ => String::from("bad"),
+    }
+}
+
+#[cfg(test)]
+mod tests {
+    use super::*;
+    use std::collections::BTreeSet;
+
+    /// All that a sheet can end in, but for number 17, which takes a million ticks; 16 and 18 stand in no sheet.
+    #[test]
+    fn every_kind_of_sheet_is_grown() {
+        let grown: BTreeSet<String> = (0..20_000).map(|seed| kind(&case(&mut Random::new(seed)))).collect();
+        let all: BTreeSet<String> = (1..=15).map(|number| format!("refused {number}")).chain([String::from("clean"), String::from("bad")]).collect();
+        assert_eq!(grown, all);
+    }
+
+    #[test]
+    fn torn_and_idle_records_are_what_they_are_called() {
+        for seed in 0..2000 {
+            let random = &mut Random::new(seed);
+            let before = random.word();
+            let number = |bytes: &[u8]| second::record::read(bytes, 0, before).err().map(|refusal| refusal.number());
+            assert_eq!(number(&torn(random, before)), Some(13));
+            assert_eq!(number(&idle(random, before)), Some(14));
+        }
+    }
+
+    #[test]
+    fn the_same_seed_grows_the_same_case() {
+        for seed in 0..100 {
+            assert_eq!(case(&mut Random::new(seed)), case(&mut Random::new(seed)));
+        }
+    }
 }

@@ -9,12 +9,13 @@ impl Random {
             r.0 = 1;
         }
         for _ in 0..4 {
-            r.next();
+            r.word();
         }
         r
     }
 
-    pub fn next(&mut self) -> u64 {
+    /// 64 random bits.
+    pub fn word(&mut self) -> u64 {
         self.0 ^= self.0 << 13;
         self.0 ^= self.0 >> 7;
         self.0 ^= self.0 << 17;
@@ -23,7 +24,7 @@ impl Random {
 
     /// A number below n.
     pub fn below(&mut self, n: usize) -> usize {
-        ((self.next() >> 11) % n as u64) as usize
+        ((self.word() >> 11) % n as u64) as usize
     }
 
     /// True once in n times.

@@ -7,8 +7,9 @@ use mathlib.Core.Logic.{⊎-elim}
 use Prim.Native.Nat.{ℕ, zero, suc, _<_}
 use native.Mathlib.Nat.{eq-or-lt-of-le, le-of-suc-le-suc, not-suc-le-zero}
 use lib.Dec.{eqb}
-use lib.ListN.{length, getD}
+use lib.ListN.{getD}
 use borrow.Author.Tests.{eqb-true}
+use Rattle.lexer.specs.Classes.{classOf, Listed}
 use Rattle.lexer.proofs.Bools.{and-left, and-right}
 
 -- the test passes at every number below n
@@ -24,7 +25,7 @@ every-at f (suc n) e k h =
     (λ l. every-at f n (and-right (f n) (every f n) e) k l)
     (eq-or-lt-of-le (le-of-suc-le-suc h))
 
--- a table holds at each index what the rule says
-pub table-at : (rule : ℕ → ℕ) (xs : List ℕ) (k : ℕ) → k < length xs → every (λ k. eqb (getD xs k 0) (rule k)) (length xs) ≡ true
-    → getD xs k 0 ≡ rule k
-table-at rule xs k h e = eqb-true (getD xs k 0) (rule k) (every-at (λ k. eqb (getD xs k 0) (rule k)) (length xs) e k h)
+-- a table lists the class of each byte value if it passes the test at all of them
+pub listed : (xs : List ℕ) → every (λ b. eqb (getD xs b 0) (classOf b)) 256 ≡ true → Listed xs
+unfolding Listed
+listed xs e b h = eqb-true (getD xs b 0) (classOf b) (every-at (λ b. eqb (getD xs b 0) (classOf b)) 256 e b h)

@@ -27,7 +27,7 @@ unfoldable pub classOf : ℕ → ℕ
 classOf b = cond (isWhite b) 1 (cond (isDigit b) 2 (cond (isLetter b) 3 (signClass b 0 signs)))
 
 -- a table of 256 entries lists the class of each byte value
-abbrev pub Listed : List ℕ → Type 0
+unfoldable pub Listed : List ℕ → Type 0
 Listed table = (b : ℕ) → b < 256 → getD table b 0 ≡ classOf b
 
 abbrev pub within : ℕ → ℕ → ℕ → Bool

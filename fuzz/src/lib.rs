@@ -1,0 +1,16 @@
+//! Random cases for the line watch, what they must show, and how a case that fails is made small and saved. The program beside it (`main.rs`) has the C
+//! entries; here they are parameters, so that the tests can put wrong ones in their place.
+
+pub mod compare;
+pub mod grow;
+pub mod limits;
+pub mod random;
+pub mod save;
+pub mod shrink;
+
+/// A rule text and a trace.
+#[derive(Clone, Debug, PartialEq, Eq)]
+pub struct Case {
+    pub text: Vec<u8>,
+    pub trace: Vec<u8>,
+}

@@ -1,0 +1,181 @@
+//! The names of wires and monitors in a rule text.
+//!
+//! This is no reader of the grammar. The library is asked first, and only texts that it accepts (or refuses with 8 to 12, which come after the whole
+//! text was read) get here. In these `input` and `monitor` are reserved words, so each token `input` is followed by a name and then by `;` or by
+//! `[ h : 0 ] ;`, and the one token `monitor` is followed by the names of the monitors up to `;`. A number is always followed by a sign there, so a
+//! run of letters, digits and `_` is one token. Nothing else of the text is needed.
+
+use crate::{library, refusals};
+
+/// An input: bits `low` to `low + width - 1` of a word.
+#[derive(Debug, PartialEq)]
+pub struct Wire {
+    pub name: String,
+    pub low: u32,
+    pub width: u32,
+}
+
+impl Wire {
+    /// The largest value of the wire.
+    pub fn largest(&self) -> u64 {
+        u64::MAX >> (64 - self.width)
+    }
+
+    /// The wire's value in a word.
+    pub fn value(&self, word: u64) -> u64 {
+        word >> self.low & self.largest()
+    }
+
+    /// The word with the wire's value changed.
+    pub fn changed(&self, word: u64, value: u64) -> u64 {
+        word & !(self.largest() << self.low) | value << self.low
+    }
+}
+
+/// The wires of a text from bit 0 on, and its monitors from number 0 on.
+#[derive(Debug, PartialEq)]
+pub struct Rules {
+    pub wires: Vec<Wire>,
+    pub monitors: Vec<String>,
+}
+
+/// Wires and monitors of a text that the library accepts, or why it refuses the text.
+pub fn open(text: &[u8]) -> Result<Rules, String> {
+    let sheet = String::from_utf8_lossy(&library::sheet(text, &[])).into_owned();
+    match sheet.strip_prefix("refused ") {
+        Some(place) => Err(refused(text, place)),
+        None => names(text).ok_or_else(|| String::from("the wires of the rule text could not be read")),
+    }
+}
+
+/// A refused text in words; `numbers` is what the sheet says behind `refused`.
+fn refused(text: &[u8], numbers: &str) -> String {
+    let numbers: Vec<usize> = numbers.split_whitespace().filter_map(|n| n.parse().ok()).collect();
+    let (number, place) = match numbers[..] {
+        [number, monitor, letter] => (number, format!(" at monitor {monitor}{}, letter {letter}", in_brackets(text, monitor))),
+        [number, byte] if number > 1 => (number, at_byte(text, byte)),
+        [number, ..] => (number, String::new()),
+        [] => (0, String::new()),
+    };
+    format!("the rule text is refused {number} ({}){place}: {}", refusals::word(number), refusals::reason(number))
+}
+
+/// The name of a monitor, in brackets behind its number.
+fn in_brackets(text: &[u8], monitor: usize) -> String {
+    names(text).and_then(|rules| rules.monitors.get(monitor).map(|name| format!(" ({name})"))).unwrap_or_default()
+}
+
+/// A byte of a text, with its line and column from 1 on. All bytes before the place are tokens or white space, so each is a character.
+fn at_byte(text: &[u8], byte: usize) -> String {
+    let before = &text[..byte.min(text.len())];
+    let line = 1 + before.iter().filter(|&&b| b == b'\n').count();
+    let column = 1 + before.iter().rev().take_while(|&&b| b != b'\n').count();
+    let end = if byte == text.len() { ", the end of the text" } else { "" };
+    format!(" at byte {byte}, line {line}, column {column}{end}")
+}
+
+fn names(text: &[u8]) -> Option<Rules> {
+    let text = std::str::from_utf8(text).ok()?;
+    let mut rules = Rules { wires: Vec::new(), monitors: Vec::new() };
+    let mut low = 0;
+    let mut rest = tokens(text).into_iter();
+    while let Some(token) = rest.next() {
+        if token == "input" {
+            let name = String::from(rest.next()?);
+            let width = if rest.next()? == "[" { rest.next()?.parse::<u32>().ok()?.checked_add(1)? } else { 1 };
+            rules.wires.push(Wire { name, low, width });
+            low = low.checked_add(width).filter(|&bits| bits <= 64)?;
+        } else if token == "monitor" {
+            rules.monitors = rest.by_ref().take_while(|&t| t != ";").filter(|&t| t != ",").map(String::from).collect();
+        }
+    }
+    Some(rules)
+}
+
+/// The tokens of a text, except that a sign of two characters is cut in two.
+fn tokens(text: &str) -> Vec<&str> {
+    let in_name = |c: char| c.is_ascii_alphanumeric() || c == '_';
+    let mut tokens = Vec::new();
+    let mut rest = text.trim_start();
+    while let Some(first) = rest.chars().next() {
+        let end = if in_name(first) { rest.find(|c| !in_name(c)).unwrap_or(rest.len()) } else { first.len_utf8() };
+        let (token, behind) = rest.split_at(end);
+        tokens.push(token);
+        rest = behind.trim_start();
+    }
+    tokens
+}
+
+#[cfg(test)]
+mod tests {
+    use super::*;
+
+    fn wires(text: &str) -> Vec<(String, u32, u32)> {
+        open(text.as_bytes()).unwrap().wires.into_iter().map(|w| (w.name, w.low, w.width)).collect()
+    }
+
+    fn wire(name: &str, low: u32, width: u32) -> (String, u32, u32) {
+        (String::from(name), low, width)
+    }
+
+    #[test]
+    fn wires_take_their_bits_in_order() {
+        let text = "input a;input b[7:0];internal s[7:0]=3;input c; p->a&b==s&c;monitor p;";
+        assert_eq!(wires(text), [wire("a", 0, 1), wire("b", 1, 8), wire("c", 9, 1)]);
+    }
+
+    #[test]
+    fn white_space_may_stand_anywhere() {
+        let text = "input\n\ta[7 : 0] ;\r\ninput\tb [ 007\n:\n00 ]\n; p -> a == 0 ;monitor\np\n;\n";
+        assert_eq!(wires(text), [wire("a", 0, 8), wire("b", 8, 8)]);
+    }
+
+    #[test]
+    fn names_that_hold_reserved_words_are_names() {
+        let text = "input input_1; input xinput; input monitors; define inputs = input_1; p -> inputs & !xinput & monitors; monitor p;";
+        assert_eq!(wires(text), [wire("input_1", 0, 1), wire("xinput", 1, 1), wire("monitors", 2, 1)]);
+    }
+
+    #[test]
+    fn a_text_may_have_no_wires_or_all_of_them() {
+        assert_eq!(wires("internal s = 0; p -> s == 0; monitor p;"), []);
+        assert_eq!(wires("input D[63:0]; p -> D == 1; monitor p;"), [wire("D", 0, 64)]);
+    }
+
+    #[test]
+    fn monitors_are_numbered_as_listed() {
+        let rules = open(b"input a; p -> a; q -> !a; monitor p,q , p;").unwrap();
+        assert_eq!(rules.monitors, ["p", "q", "p"]);
+    }
+
+    #[test]
+    fn values_are_cut_out_and_put_in() {
+        let field = Wire { name: String::from("f"), low: 4, width: 8 };
+        assert_eq!(field.value(0xabcd), 0xbc);
+        assert_eq!(field.changed(0xabcd, 0x12), 0xa12d);
+        let all = Wire { name: String::from("g"), low: 0, width: 64 };
+        assert_eq!(all.value(u64::MAX), u64::MAX);
+        assert_eq!(all.changed(5, 7), 7);
+    }
+
+    #[test]
+    fn refused_texts_say_number_word_and_place() {
+        let said = |text: &[u8]| open(text).unwrap_err();
+        assert_eq!(
+            said(b"input a;\n  p -> b;\nmonitor p;\n"),
+            "the rule text is refused 4 (unknown) at byte 16, line 2, column 8: a name that is not declared above, or not of a kind allowed here"
+        );
+        assert_eq!(
+            said(b"input a;\n"),
+            "the rule text is refused 3 (misplaced) at byte 9, line 2, column 1, the end of the text: \
+             the grammar does not allow this token, or the end of the text, here"
+        );
+        assert!(said(b"").starts_with("the rule text is refused 3 (misplaced) at byte 0, line 1, column 1, the end of the text: "));
+        assert!(said(b"input a;\n\xff").starts_with("the rule text is refused 2 (knot) at byte 9, line 2, column 1: "));
+        assert_eq!(said(&[b' '; 16_385]), "the rule text is refused 1 (overlong): the text has more than 16,384 bytes");
+        assert_eq!(
+            said(b"input a; input b; p -> a; q -> a*, a; monitor p, q;"),
+            "the rule text is refused 12 (fork) at monitor 1 (q), letter 0: two letters side by side whose wire literals one word meets"
+        );
+    }
+}
