@@ -1,42 +1,55 @@
 -- The positions are right: the machine goes on exactly where the ticks fit, and they are the letters met.
 use mathlib.Core.List.{List, [], _∷_, _++_, map, append-nil}
 use mathlib.Core.Bool.{Bool, true, false, cond}
-use mathlib.Core.Option.{Option, none, some, Option·none-ne-some, Option·some-injective}
+use mathlib.Core.Option.{Option, none, some, Option·none-ne-some}
 use mathlib.Core.Path.{_≡_, refl, sym, ap, ap₂, _∙_, subst, fun-ext}
-use Prim.Native.Nat.{ℕ, suc, _<_}
-use native.Mathlib.Omega.{arith}
-use lib.Dec.{T-not, eqb, eqb→eq, eqb-refl}
+use mathlib.Core.Logic.{⊎-elim}
+use Prim.Native.Nat.{ℕ, suc}
+use lib.Dec.{T, T-not, eqb, eqb→eq, eqb-refl}
 use lib.ListN.{length, getD}
-use Rattle.meaning.specs.Lists.{each, only, _∈_}
+use Rattle.meaning.specs.Lists.{only, _∈_}
 use Rattle.meaning.specs.Expression.{Letter, Exp, letter, seq, alt, star, pipe, letters}
 use Rattle.meaning.specs.Shape.{nullable}
-use Rattle.meaning.specs.Fit.{Tick, meets, Run, Rest, pastTheEnd, anything, nothing, merge, both, rounds, runs}
-use Rattle.meaning.specs.Positions.{Way, orElse, joined, ask, has, leave, Positions, at-start, on}
-use Rattle.meaning.proofs.ListLaws.{here, no-∈, ∈-left, ∈-right, ∈-map, map-∈, one-∈, is-true, is-false, any-from, any-to}
-use Rattle.meaning.proofs.Step.{Solid, near, unroll, ended, Good, goesOn, afters, Placed, good-both, good-anything, both-∈}
+use Rattle.meaning.specs.Fit.{Tick, meets, Run, Rest, pastTheEnd, anything, merge, both, runs}
+use Rattle.meaning.specs.Positions.{Way, over, joined, Entered, met, passed, blocked, orEnter, orPass, enter, goesBy, ask, has, leave, Positions, at-start, on}
+use Rattle.meaning.proofs.ListLaws.{here, no-∈, append-∈, ∈-left, ∈-right, ∈-map, map-∈, one-∈, T-and, T-or-left, T-or-right, is-true, is-false, any-from, any-to}
+use Rattle.meaning.proofs.Step.{Solid, unroll, ended, Good, goesOn, afters, Placed, good-both, good-anything, ∈-both, both-∈}
+use Rattle.meaning.proofs.Entering.{goes-then}
 use Rattle.meaning.proofs.OneWay.{Same, Apart, Numbered}
 
--- ---- the machine's ways are the runs of one tick ----
+-- ---- the machine takes one of the runs of a tick ----
 
 -- the letters of a run's first tick
 abbrev pub front : Run → List ℕ
 front [] = []
 front (ns ∷ r) = ns
 
-abbrev pub lead : List Run → Option (List ℕ)
-lead [] = none
-lead (r ∷ rs) = some (front r)
+-- o is the front of one of the runs A, or none where there is no run
+abbrev pub Leads : Option (List ℕ) → List Run → Type 0
+Leads none A = (r : Run) → r ∈ A → ⊥
+Leads (some ns) A = (r : Run) × (r ∈ A) × (front r ≡ ns)
 
-abbrev pub way : Rest → Way
-way K t = lead (K (t ∷ []))
+-- A and B are the runs of two alternatives
+leads-left : (o : Option (List ℕ)) (A B : List Run) → Leads o A → (o ≡ none → Leads none B) → Leads o (A ++ B)
+leads-left none A B h g = λ r i. ⊎-elim (h r) (g refl r) (append-∈ A i)
+leads-left (some ns) A B (r, i, p) g = (r, ∈-left B i, p)
 
-lead-append : (A B : List Run) → lead (A ++ B) ≡ orElse (lead A) (lead B)
-lead-append [] B = refl
-lead-append (r ∷ A) B = refl
+leads-right : (o : Option (List ℕ)) (A B : List Run) → Leads none A → Leads o B → Leads o (A ++ B)
+leads-right none A B g h = λ r i. ⊎-elim (g r) (h r) (append-∈ A i)
+leads-right (some ns) A B g (r, i, p) = (r, ∈-right A i, p)
 
-none-each : (A : List Run) → each A (λ r. map (merge r) []) ≡ []
-none-each [] = refl
-none-each (r ∷ A) = none-each A
+leads-or : (a b : Entered) (o : Option (List ℕ)) (A B : List Run) → Leads (goesBy a o) A → Leads (goesBy b o) B → Leads (goesBy (orEnter a b) o) (A ++ B)
+leads-or (met n) b o A B (r, i, p) h = (r, ∈-left B i, p)
+leads-or passed (met n) o A B g (r, i, p) = (r, ∈-right A i, p)
+leads-or passed passed o A B g h = leads-left o A B g (λ q. subst (λ x. Leads x B) q h)
+leads-or passed blocked o A B g h = leads-left o A B g (λ q. h)
+leads-or blocked b o A B g h = leads-right (goesBy b o) A B g h
+
+-- A follows a star, and B are the runs of its body
+leads-star : (a : Entered) (o : Option (List ℕ)) (A B : List Run) → Leads o A → Leads (goesBy a none) B → Leads (goesBy (orPass a) o) (A ++ B)
+leads-star (met n) o A B g (r, i, p) = (r, ∈-right A i, p)
+leads-star passed o A B g h = leads-left o A B g (λ q. h)
+leads-star blocked o A B g h = leads-left o A B g (λ q. h)
 
 front-merge : (r s : Run) → front (merge r s) ≡ front r ++ front s
 unfolding merge
@@ -44,31 +57,31 @@ front-merge [] s = refl
 front-merge (a ∷ r) [] = sym (append-nil a)
 front-merge (a ∷ r) (b ∷ s) = refl
 
-pub lead-both : (A B : List Run) → lead (both A B) ≡ joined (lead A) (lead B)
-lead-both [] B = refl
-lead-both (r ∷ A) [] = ap lead (none-each A)
-lead-both (r ∷ A) (s ∷ B) = ap some (front-merge r s)
+pub leads-both : (o p : Option (List ℕ)) (A B : List Run) → Leads o A → Leads p B → Leads (joined o p) (both A B)
+leads-both none p A B g h = λ r i. let (x, y, j, k, e) = both-∈ A B i in g x j
+leads-both (some ns) none A B g h = λ r i. let (x, y, j, k, e) = both-∈ A B i in h y k
+leads-both (some ns) (some ms) A B (x, i, p) (y, j, q) = (merge x y, ∈-both i j, front-merge x y ∙ ap₂ _++_ p q)
 
-letter-way : (n : ℕ) (b : Bool) (X : List Run) → X ≡ pastTheEnd → lead (only b (map (λ r. (n ∷ []) ∷ r) X)) ≡ cond b (some (n ∷ [])) none
-letter-way n true X p = ap (λ Y. lead (map (λ r. (n ∷ []) ∷ r) Y)) p
-letter-way n false X p = refl
+leads-letter : (n : ℕ) (b : Bool) (o : Option (List ℕ)) (A : List Run) → A ≡ pastTheEnd → Leads (goesBy (cond b (met n) blocked) o) (only b (map (λ r. (n ∷ []) ∷ r) A))
+leads-letter n true o A p = ((n ∷ []) ∷ [], rw p (here refl), refl)
+leads-letter n false o A p = λ r i. no-∈ i
 
-no-ticks : (K : Rest) → K [] ≡ pastTheEnd → (us : List Tick) → length us < 1 → K us ≡ nothing us
-no-ticks K k [] h = k
-no-ticks K k (u ∷ us) h = absurd (omega arith)
-
-pub ask-way : (e : Exp) (K : Rest) → Solid e → K [] ≡ pastTheEnd → (t : Tick) → way (runs e K) t ≡ ask e (way K) t
-unfolding runs ask rounds merge
-ask-way (letter l) K s k t = letter-way (l .number) (meets l t) (K []) k
-ask-way (seq e f) K s k t = ask-way e (runs f K) (s .0) (ended f K k) t ∙ ap (λ L. ask e L t) (fun-ext (ask-way f K (s .1) k))
-ask-way (alt e f) K s k t =
-    lead-append (runs e K (t ∷ [])) (runs f K (t ∷ [])) ∙ ap₂ orElse (ask-way e K (s .0) k t) (ask-way f K (s .1) k t)
-ask-way (star e) K s k t =
-    ap lead (unroll e s K k t []) ∙ lead-append (K (t ∷ [])) (runs e (runs (star e) K) (t ∷ []))
-    ∙ ap (orElse (way K t)) (ap lead (near e (s .1) (runs (star e) K) nothing (t ∷ []) (no-ticks (runs (star e) K) k) (λ he. absurd (T-not (nullable e) (s .0) he))) ∙ ask-way e nothing (s .1) refl t)
-ask-way (pipe e f) K s k t =
-    ask-way e (λ us. both (K us) (runs f anything us)) (s .2) (ap₂ both k (ended f anything refl)) t
-    ∙ ap (λ L. ask e L t) (fun-ext (λ u. lead-both (K (u ∷ [])) (runs f anything (u ∷ [])) ∙ ap (joined (way K u)) (ask-way f anything (s .3) refl u)))
+-- asking goes as one of the runs of e followed by K, if o goes as one of K, which counts only where e can be left at once
+pub ask-leads : (e : Exp) (K : Rest) (o : Option (List ℕ)) → Solid e → K [] ≡ pastTheEnd → (t : Tick) → (T (nullable e) → Leads o (K (t ∷ [])))
+    → Leads (goesBy (enter e t) o) (runs e K (t ∷ []))
+unfolding runs enter nullable merge
+ask-leads (letter l) K o s k t h = leads-letter (l .number) (meets l t) o (K []) k
+ask-leads (seq e f) K o s k t h = rw (goes-then (enter e t) (enter f t) o)
+    (ask-leads e (runs f K) (goesBy (enter f t) o) (s .0) (ended f K k) t
+    (λ he. ask-leads f K o (s .1) k t (λ hf. h (T-and (nullable e) (nullable f) he hf))))
+ask-leads (alt e f) K o s k t h = leads-or (enter e t) (enter f t) o (runs e K (t ∷ [])) (runs f K (t ∷ []))
+    (ask-leads e K o (s .0) k t (λ he. h (T-or-left (nullable e) (nullable f) he)))
+    (ask-leads f K o (s .1) k t (λ hf. h (T-or-right (nullable e) (nullable f) hf)))
+ask-leads (star e) K o s k t h = subst (Leads (goesBy (orPass (enter e t)) o)) (sym (unroll e s K k t []))
+    (leads-star (enter e t) o (K (t ∷ [])) (runs e (runs (star e) K) (t ∷ [])) (h tt)
+    (ask-leads e (runs (star e) K) none (s .1) (ended (star e) K k) t (λ he. absurd (T-not (nullable e) (s .0) he))))
+ask-leads (pipe e f) K o s k t h =
+    ask-leads e (λ us. both (K us) (runs f anything us)) o (s .2) (ap₂ both k (ended f anything refl)) t (λ he. absurd (T-not (nullable e) (s .0) he))
 
 -- what follows letter n of e followed by K
 unfoldable pub after : ℕ → Exp → Rest → Rest
@@ -78,23 +91,24 @@ after n (alt e f) K ts = cond (has n e) (after n e K ts) (after n f K ts)
 after n (star e) K ts = after n e (runs (star e) K) ts
 after n (pipe e f) K ts = cond (has n e) (after n e (λ us. both (K us) (runs f anything us)) ts) (after n f anything ts)
 
-cond-way : (b : Bool) (X Y : List Run) (x y : Option (List ℕ)) → lead X ≡ x → lead Y ≡ y → lead (cond b X Y) ≡ cond b x y
-cond-way true X Y x y p q = p
-cond-way false X Y x y p q = q
+leads-cond : (b : Bool) (o p : Option (List ℕ)) (A B : List Run) → Leads o A → Leads p B → Leads (cond b o p) (cond b A B)
+leads-cond true o p A B g h = g
+leads-cond false o p A B g h = h
 
-pub leave-way : (n : ℕ) (e : Exp) (K : Rest) → Solid e → K [] ≡ pastTheEnd → (t : Tick) → way (after n e K) t ≡ leave n e (way K) t
+pub leave-leads : (n : ℕ) (e : Exp) (K : Rest) (W : Way) → Solid e → K [] ≡ pastTheEnd → (t : Tick) → Leads (W t) (K (t ∷ []))
+    → Leads (leave n e W t) (after n e K (t ∷ []))
 unfolding after leave merge
-leave-way n (letter l) K s k t = refl
-leave-way n (seq e f) K s k t = cond-way (has n e) _ _ _ _
-    (leave-way n e (runs f K) (s .0) (ended f K k) t ∙ ap (λ L. leave n e L t) (fun-ext (ask-way f K (s .1) k)))
-    (leave-way n f K (s .1) k t)
-leave-way n (alt e f) K s k t = cond-way (has n e) _ _ _ _ (leave-way n e K (s .0) k t) (leave-way n f K (s .1) k t)
-leave-way n (star e) K s k t =
-    leave-way n e (runs (star e) K) (s .1) (ended (star e) K k) t ∙ ap (λ L. leave n e L t) (fun-ext (ask-way (star e) K s k))
-leave-way n (pipe e f) K s k t = cond-way (has n e) _ _ _ _
-    (leave-way n e (λ us. both (K us) (runs f anything us)) (s .2) (ap₂ both k (ended f anything refl)) t
-    ∙ ap (λ L. leave n e L t) (fun-ext (λ u. lead-both (K (u ∷ [])) (runs f anything (u ∷ [])) ∙ ap (joined (way K u)) (ask-way f anything (s .3) refl u))))
-    (leave-way n f anything (s .3) refl t)
+leave-leads n (letter l) K W s k t h = h
+leave-leads n (seq e f) K W s k t h = leads-cond (has n e) _ _ _ _
+    (leave-leads n e (runs f K) (ask f W) (s .0) (ended f K k) t (ask-leads f K (W t) (s .1) k t (λ hf. h)))
+    (leave-leads n f K W (s .1) k t h)
+leave-leads n (alt e f) K W s k t h = leads-cond (has n e) _ _ _ _ (leave-leads n e K W (s .0) k t h) (leave-leads n f K W (s .1) k t h)
+leave-leads n (star e) K W s k t h =
+    leave-leads n e (runs (star e) K) (ask (star e) W) (s .1) (ended (star e) K k) t (ask-leads (star e) K (W t) s k t (λ hs. h))
+leave-leads n (pipe e f) K W s k t h = leads-cond (has n e) _ _ _ _
+    (leave-leads n e (λ us. both (K us) (runs f anything us)) (λ u. joined (W u) (ask f over u)) (s .2) (ap₂ both k (ended f anything refl)) t
+    (leads-both (W t) (ask f over t) (K (t ∷ [])) (runs f anything (t ∷ [])) h (ask-leads f anything (some []) (s .3) refl t (λ hf. ([], here refl, refl)))))
+    (leave-leads n f anything over (s .3) refl t ([], here refl, refl))
 
 -- ---- `after` is right at each letter ----
 
@@ -160,17 +174,9 @@ abbrev pub rest : Rest → (ℕ → Rest) → Positions → Rest
 rest start G at-start = start
 rest start G (on ns) = afters G ns
 
--- the machine's step, in terms of runs
-abbrev pub ways : Rest → (ℕ → Rest) → Positions → Way
-ways start G x = way (rest start G x)
-
-lead-of : (A : List Run) → ((r s : Run) → r ∈ A → s ∈ A → r ≡ s) → (r : Run) → r ∈ A → lead A ≡ some (front r)
-lead-of [] h r i = absurd (no-∈ i)
-lead-of (q ∷ A) h r i = ap (λ z. some (front z)) (h q r (here refl) i)
-
-lead-in : (A : List Run) (ns : List ℕ) → lead A ≡ some ns → (r : Run) × (r ∈ A) × (front r ≡ ns)
-lead-in [] ns p = absurd (Option·none-ne-some ns p)
-lead-in (q ∷ A) ns p = (q, here refl, Option·some-injective (front q) ns p)
+leads-to : (A : List Run) → ((r s : Run) → r ∈ A → s ∈ A → r ≡ s) → (o : Option (List ℕ)) → Leads o A → (r : Run) → r ∈ A → o ≡ some (front r)
+leads-to A same none h r i = absurd (h r i)
+leads-to A same (some ns) (q, j, p) r i = ap some (sym p ∙ ap front (same q r j i))
 
 pub then-some : (o : Option (List ℕ)) (f : List ℕ → Option Positions) (y : Positions) → then o f ≡ some y → (ns : List ℕ) × (o ≡ some ns) × (f ns ≡ some y)
 then-some none f y p = absurd (Option·none-ne-some y p)
@@ -180,16 +186,17 @@ front-at : (r : Run) → front r ≡ getD r 0 []
 front-at [] = refl
 front-at (ns ∷ r) = refl
 
--- What follows each position is fixed by one tick at a time, and one tick leaves it at most one way.
-pub record Exact (start : Rest) (G : ℕ → Rest) : Type 0 where
+-- What follows each position is fixed by one tick at a time, one tick leaves it at most one way, and the machine W goes that way.
+pub record Exact (start : Rest) (G : ℕ → Rest) (W : Positions → Way) : Type 0 where
   pub start-ends : start [] ≡ pastTheEnd
   pub G-ends : (n : ℕ) → G n [] ≡ pastTheEnd
   pub start-good : Good G start
   pub G-good : (n : ℕ) → Good G (G n)
   pub start-same : (t : Tick) → Same t start
   pub G-same : (n : ℕ) (t : Tick) → Same t (G n)
+  pub goes : (x : Positions) (t : Tick) → Leads (W x t) (rest start G x (t ∷ []))
 
-module _ (start : Rest) (G : ℕ → Rest) (ex : Exact start G) where
+module _ (start : Rest) (G : ℕ → Rest) (W : Positions → Way) (ex : Exact start G W) where
   afters-ends : (ns : List ℕ) → afters G ns [] ≡ pastTheEnd
   unfolding afters merge
   afters-ends [] = refl
@@ -220,6 +227,10 @@ module _ (start : Rest) (G : ℕ → Rest) (ex : Exact start G) where
   rest-same at-start = (ex .start-same)
   rest-same (on ns) = afters-same ns
 
+  -- so whichever run the machine takes, it goes as any other would
+  way-of : (x : Positions) (t : Tick) (q : Run) → q ∈ rest start G x (t ∷ []) → W x t ≡ some (front q)
+  way-of x t q i = leads-to (rest start G x (t ∷ [])) (rest-same x t) (W x t) (ex .goes x t) q i
+
   -- a run gone on with: its front, then a run of what follows the front's letters
   go-in : (q : Run) (ts : List Tick) (r : Run) → r ∈ goesOn G q ts → (s : Run) × (s ∈ afters G (front q) ts) × ((k : ℕ) → getD r (suc k) [] ≡ getD s k [])
   unfolding goesOn afters
@@ -241,35 +252,35 @@ module _ (start : Rest) (G : ℕ → Rest) (ex : Exact start G) where
       sym p ∙ ap (λ z. ns ∷ z) (h a b k l) ∙ e
 
   -- where the machine goes on there is a run
-  pub runs-if : (ts : List Tick) (x y : Positions) → positionsAfter (ways start G) x ts ≡ some y → (r : Run) × (r ∈ rest start G x ts)
+  pub runs-if : (ts : List Tick) (x y : Positions) → positionsAfter W x ts ≡ some y → (r : Run) × (r ∈ rest start G x ts)
   unfolding positionsAfter
   runs-if [] x y p = ([], rw (rest-ends x) (here refl))
   runs-if (t ∷ ts) x y p =
-      let (ns, a, b) = then-some (ways start G x t) (λ ns. positionsAfter (ways start G) (on ns) ts) y p in
-      let (q, i, e) = lead-in (rest start G x (t ∷ [])) ns a in
+      let (ns, a, b) = then-some (W x t) (λ ns. positionsAfter W (on ns) ts) y p in
+      let (q, i, e) = subst (λ o. Leads o (rest start G x (t ∷ []))) a (ex .goes x t) in
       let (s, j) = runs-if ts (on ns) y b in
       let (r, k) = go-out q ts s (subst (λ z. s ∈ afters G z ts) (sym e) j) in
       (r, rest-good x .from t ts q r i k)
 
   -- where there is a run the machine goes on
-  pub goes-if : (ts : List Tick) (x : Positions) (r : Run) → r ∈ rest start G x ts → (y : Positions) × (positionsAfter (ways start G) x ts ≡ some y)
+  pub goes-if : (ts : List Tick) (x : Positions) (r : Run) → r ∈ rest start G x ts → (y : Positions) × (positionsAfter W x ts ≡ some y)
   unfolding positionsAfter
   goes-if [] x r i = (x, refl)
   goes-if (t ∷ ts) x r i =
       let (q, j, m) = rest-good x .to t ts r i in
       let (s, l, g) = go-in q ts r m in
       let (y, p) = goes-if ts (on (front q)) s l in
-      (y, ap (λ o. then o (λ ns. positionsAfter (ways start G) (on ns) ts)) (lead-of (rest start G x (t ∷ [])) (rest-same x t) q j) ∙ p)
+      (y, ap (λ o. then o (λ ns. positionsAfter W (on ns) ts)) (way-of x t q j) ∙ p)
 
   -- and then its positions are the letters of the last tick
   pub positions-if : (ts : List Tick) (t : Tick) (x : Positions) (r : Run) → r ∈ rest start G x (ts ++ t ∷ [])
-      → positionsAfter (ways start G) x (ts ++ t ∷ []) ≡ some (on (getD r (length ts) []))
+      → positionsAfter W x (ts ++ t ∷ []) ≡ some (on (getD r (length ts) []))
   unfolding positionsAfter
-  positions-if [] t x r i = ap (λ o. then o (λ ns. some (on ns))) (lead-of (rest start G x (t ∷ [])) (rest-same x t) r i) ∙ ap (λ z. some (on z)) (front-at r)
+  positions-if [] t x r i = ap (λ o. then o (λ ns. some (on ns))) (way-of x t r i) ∙ ap (λ z. some (on z)) (front-at r)
   positions-if (u ∷ ts) t x r i =
       let (q, j, m) = rest-good x .to u (ts ++ t ∷ []) r i in
       let (s, l, g) = go-in q (ts ++ t ∷ []) r m in
-      ap (λ o. then o (λ ns. positionsAfter (ways start G) (on ns) (ts ++ t ∷ []))) (lead-of (rest start G x (u ∷ [])) (rest-same x u) q j)
+      ap (λ o. then o (λ ns. positionsAfter W (on ns) (ts ++ t ∷ []))) (way-of x u q j)
       ∙ positions-if ts t (on (front q)) s l
       ∙ ap (λ z. some (on z)) (sym (g (length ts)))
 

@@ -9,6 +9,7 @@ use lib.Dec.{T, T-not, not-T, leb→le, le→leb, nleb→lt}
 use native.Mathlib.Decide.{decLt, ℕ-discrete}
 use lib.ListN.{length, take, getD}
 use lib.Seq.{take-suc, take-all}
+use Rattle.lexer.proofs.Bools.{or-true, or-false}
 use Rattle.meaning.specs.Lists.{any, count, only}
 use Rattle.meaning.specs.Expression.{Exp}
 use Rattle.meaning.specs.Shape.{AllRead}
@@ -87,14 +88,6 @@ length-snoc [] [] x y p = refl
 length-snoc [] (b ∷ ys) x y p = absurd (omega arith)
 length-snoc (a ∷ xs) [] x y p = absurd (omega arith)
 length-snoc (a ∷ xs) (b ∷ ys) x y p = ap suc (length-snoc xs ys x y (omega arith))
-
-or-false : (b : Bool) → b || false ≡ b
-or-false true = refl
-or-false false = refl
-
-or-true : (b : Bool) → b || true ≡ true
-or-true true = refl
-or-true false = refl
 
 -- ---- the state holds what the sentence asks of the earlier calls ----
 

@@ -1,4 +1,4 @@
--- The walk's calls stay within its count: stated apart from what the walk answers. From there on a greater count changes nothing. Assumes nothing.
+-- The walk's calls stay within its count: stated apart from what the walk answers, but for one thing: a row that is asked is left only where entering it passes. From there on a greater count changes nothing. Assumes nothing.
 use mathlib.Core.Bool.{Bool, true, false, cond}
 use mathlib.Core.List.{List}
 use mathlib.Core.Option.{Option}
@@ -8,19 +8,20 @@ use Prim.Native.Nat.{ℕ, zero, suc, _≤_}
 use native.Mathlib.Omega.{arith}
 use lib.Dec.{eqb, eqb→eq, eqb-refl}
 use Rattle.meaning.specs.Fit.{Tick}
-use Rattle.meaning.specs.Positions.{orElse, joined}
-use Rattle.meaning.specs.Table.{Under, Kind, is-letter, is-seq, is-alt, is-star, is-pipe, Table, askBy, leaveBy, askRow, leaveRow}
+use Rattle.meaning.specs.Positions.{joined, Entered, passed, thenEnter, orEnter, orPass, goesBy}
+use Rattle.meaning.specs.Table.{Under, Kind, is-letter, is-seq, is-alt, is-star, is-pipe, Table, enterBy, leaveBy, enterRow, askRow, leaveRow}
 use Rattle.meaning.proofs.ListLaws.{is-true, is-false}
+use Rattle.meaning.proofs.Entering.{goes-by-only}
 
 -- ---- what must end ----
 
--- the calls of `askBy`
-abbrev pub asksBy : Kind → (a b c : Type 0) → Type 0
-asksBy (is-letter l) a b c = Unit {0}
-asksBy is-seq a b c = a
-asksBy is-alt a b c = a × b
-asksBy is-star a b c = c × a
-asksBy is-pipe a b c = a
+-- the calls of `enterBy`
+abbrev pub entersBy : Kind → (a b : Type 0) → Type 0
+entersBy (is-letter l) a b = Unit {0}
+entersBy is-seq a b = a × b
+entersBy is-alt a b = a × b
+entersBy is-star a b = a
+entersBy is-pipe a b = a
 
 -- the calls of `leaveBy`
 abbrev pub leavesBy : Kind → (on-left : Bool) → (b c d : Type 0) → Type 0
@@ -30,34 +31,42 @@ leavesBy is-alt on-left b c d = c
 leavesBy is-star on-left b c d = d
 leavesBy is-pipe on-left b c d = cond on-left (c × b) (Unit {0})
 
--- asking row r, leaving it: n calls deep is enough
-unfoldable mutual
-  pub AskEnds : ℕ → Table → ℕ → Type 0
-  AskEnds zero R r = ⊥
-  AskEnds (suc n) R r = asksBy (R r .kind) (AskEnds n R (R r .left)) (AskEnds n R (R r .right)) (LeaveEnds n R r)
+-- entering row r: n calls deep is enough
+unfoldable pub EnterEnds : ℕ → Table → ℕ → Type 0
+EnterEnds zero R r = ⊥
+EnterEnds (suc n) R r = entersBy (R r .kind) (EnterEnds n R (R r .left)) (EnterEnds n R (R r .right))
 
-  pub LeaveEnds : ℕ → Table → ℕ → Type 0
-  LeaveEnds zero R r = ⊥
-  LeaveEnds (suc n) R r =
-      cond (eqb (R r .up) r) (AskEnds n R r)
-      (leavesBy (R (R r .up) .kind) (eqb r (R (R r .up) .left)) (AskEnds n R (R (R r .up) .right)) (LeaveEnds n R (R r .up)) (AskEnds n R (R r .up)))
+-- asking row r at a tick, leaving it
+unfoldable mutual
+  pub AskEnds : ℕ → Table → ℕ → Tick → Type 0
+  AskEnds zero R r t = ⊥
+  AskEnds (suc n) R r t = EnterEnds n R r × (enterRow n R r t ≡ passed → LeaveEnds n R r t)
+
+  pub LeaveEnds : ℕ → Table → ℕ → Tick → Type 0
+  LeaveEnds zero R r t = ⊥
+  LeaveEnds (suc n) R r t =
+      cond (eqb (R r .up) r) (AskEnds n R r t)
+      (leavesBy (R (R r .up) .kind) (eqb r (R (R r .up) .left)) (AskEnds n R (R (R r .up) .right) t) (LeaveEnds n R (R r .up) t) (AskEnds n R (R r .up) t))
 
 -- ---- the calls looked at are all that counts ----
 
-asks-mono : (k : Kind) {a b c a′ b′ c′ : Type 0} → (a → a′) → (b → b′) → (c → c′) → asksBy k a b c → asksBy k a′ b′ c′
-asks-mono (is-letter l) f g h e = tt
-asks-mono is-seq f g h e = f e
-asks-mono is-alt f g h e = (f (e .0), g (e .1))
-asks-mono is-star f g h e = (h (e .0), f (e .1))
-asks-mono is-pipe f g h e = f e
+enters-mono : (k : Kind) {a b a′ b′ : Type 0} → (a → a′) → (b → b′) → entersBy k a b → entersBy k a′ b′
+enters-mono (is-letter l) f g e = tt
+enters-mono is-seq f g e = (f (e .0), g (e .1))
+enters-mono is-alt f g e = (f (e .0), g (e .1))
+enters-mono is-star f g e = f e
+enters-mono is-pipe f g e = f e
 
-asks-same : (k : Kind) (t : Tick) {a b c : Type 0} {x y z x′ y′ z′ : Option (List ℕ)} → (a → x ≡ x′) → (b → y ≡ y′) → (c → z ≡ z′)
-    → asksBy k a b c → askBy k t x y z ≡ askBy k t x′ y′ z′
-asks-same (is-letter l) t f g h e = refl
-asks-same is-seq t f g h e = f e
-asks-same is-alt t f g h e = ap₂ orElse (f (e .0)) (g (e .1))
-asks-same is-star t f g h e = ap₂ orElse (h (e .0)) (f (e .1))
-asks-same is-pipe t f g h e = f e
+enters-same : (k : Kind) (t : Tick) {a b : Type 0} {x y x′ y′ : Entered} → (a → x ≡ x′) → (b → y ≡ y′) → entersBy k a b → enterBy k t x y ≡ enterBy k t x′ y′
+enters-same (is-letter l) t f g e = refl
+enters-same is-seq t f g e = ap₂ thenEnter (f (e .0)) (g (e .1))
+enters-same is-alt t f g e = ap₂ orEnter (f (e .0)) (g (e .1))
+enters-same is-star t f g e = ap orPass (f e)
+enters-same is-pipe t f g e = f e
+
+-- how a row is left counts only where entering it passes
+pub goes-same : (x : Entered) {y : Entered} {o o′ : Option (List ℕ)} → y ≡ x → (x ≡ passed → o ≡ o′) → goesBy y o ≡ goesBy x o′
+goes-same x {y} {o} {o′} q f = rw q (goes-by-only x o o′ f)
 
 leaves-mono : (k : Kind) (o : Bool) {b c d b′ c′ d′ : Type 0} → (b → b′) → (c → c′) → (d → d′) → leavesBy k o b c d → leavesBy k o b′ c′ d′
 leaves-mono (is-letter l) o f g h e = tt
@@ -90,53 +99,80 @@ own-same false f g e = g e
 module _ (R : Table) where
   -- ---- a greater count changes nothing ----
 
+  pub ends-enter : (n m r : ℕ) → EnterEnds n R r → n ≤ m → EnterEnds m R r × ((t : Tick) → enterRow m R r t ≡ enterRow n R r t)
+  unfolding EnterEnds enterRow
+  ends-enter zero m r e h = absurd e
+  ends-enter (suc n) zero r e h = absurd (omega arith)
+  ends-enter (suc n) (suc m) r e h = (
+    enters-mono (R r .kind) (λ x. ends-enter n m (R r .left) x (omega arith) .0) (λ x. ends-enter n m (R r .right) x (omega arith) .0) e,
+    λ t. enters-same (R r .kind) t (λ x. ends-enter n m (R r .left) x (omega arith) .1 t) (λ x. ends-enter n m (R r .right) x (omega arith) .1 t) e,
+  )
+
   mutual
     unfolding AskEnds askRow
 
-    pub ends-ask : (n m r : ℕ) → AskEnds n R r → n ≤ m → AskEnds m R r × ((t : Tick) → askRow m R r t ≡ askRow n R r t)
-    ends-ask zero m r e h = absurd e
-    ends-ask (suc n) zero r e h = absurd (omega arith)
-    ends-ask (suc n) (suc m) r e h = (
-      asks-mono (R r .kind) (λ x. ends-ask n m (R r .left) x (omega arith) .0) (λ x. ends-ask n m (R r .right) x (omega arith) .0)
-          (λ x. ends-leave n m r x (omega arith) .0) e,
-      λ t. asks-same (R r .kind) t (λ x. ends-ask n m (R r .left) x (omega arith) .1 t) (λ x. ends-ask n m (R r .right) x (omega arith) .1 t)
-          (λ x. ends-leave n m r x (omega arith) .1 t) e,
+    pub ends-ask : (n m r : ℕ) (t : Tick) → AskEnds n R r t → n ≤ m → AskEnds m R r t × (askRow m R r t ≡ askRow n R r t)
+    ends-ask zero m r t e h = absurd e
+    ends-ask (suc n) zero r t e h = absurd (omega arith)
+    ends-ask (suc n) (suc m) r t e h =
+        let (i, q) = ends-enter n m r (e .0) (omega arith) in
+        ((i, λ p. ends-leave n m r t (e .1 (sym (q t) ∙ p)) (omega arith) .0), goes-same (enterRow n R r t) (q t) (λ p. ends-leave n m r t (e .1 p) (omega arith) .1))
+
+    pub ends-leave : (n m r : ℕ) (t : Tick) → LeaveEnds n R r t → n ≤ m → LeaveEnds m R r t × (leaveRow m R r t ≡ leaveRow n R r t)
+    ends-leave zero m r t e h = absurd e
+    ends-leave (suc n) zero r t e h = absurd (omega arith)
+    ends-leave (suc n) (suc m) r t e h = (
+      own-mono (eqb (R r .up) r) (λ x. ends-ask n m r t x (omega arith) .0)
+          (leaves-mono (R (R r .up) .kind) (eqb r (R (R r .up) .left)) (λ x. ends-ask n m (R (R r .up) .right) t x (omega arith) .0)
+          (λ x. ends-leave n m (R r .up) t x (omega arith) .0) (λ x. ends-ask n m (R r .up) t x (omega arith) .0)) e,
+      own-same (eqb (R r .up) r) (λ x. ends-ask n m r t x (omega arith) .1)
+          (leaves-same (R (R r .up) .kind) (eqb r (R (R r .up) .left)) (λ x. ends-ask n m (R (R r .up) .right) t x (omega arith) .1)
+          (λ x. ends-leave n m (R r .up) t x (omega arith) .1) (λ x. ends-ask n m (R r .up) t x (omega arith) .1)) e,
     )
 
-    pub ends-leave : (n m r : ℕ) → LeaveEnds n R r → n ≤ m → LeaveEnds m R r × ((t : Tick) → leaveRow m R r t ≡ leaveRow n R r t)
-    ends-leave zero m r e h = absurd e
-    ends-leave (suc n) zero r e h = absurd (omega arith)
-    ends-leave (suc n) (suc m) r e h = (
-      own-mono (eqb (R r .up) r) (λ x. ends-ask n m r x (omega arith) .0)
-          (leaves-mono (R (R r .up) .kind) (eqb r (R (R r .up) .left)) (λ x. ends-ask n m (R (R r .up) .right) x (omega arith) .0)
-          (λ x. ends-leave n m (R r .up) x (omega arith) .0) (λ x. ends-ask n m (R r .up) x (omega arith) .0)) e,
-      λ t. own-same (eqb (R r .up) r) (λ x. ends-ask n m r x (omega arith) .1 t)
-          (leaves-same (R (R r .up) .kind) (eqb r (R (R r .up) .left)) (λ x. ends-ask n m (R (R r .up) .right) x (omega arith) .1 t)
-          (λ x. ends-leave n m (R r .up) x (omega arith) .1 t) (λ x. ends-ask n m (R r .up) x (omega arith) .1 t)) e,
-    )
-
-  -- ---- row r, of kind k, is asked ----
+  -- ---- row r, of kind k, is entered ----
 
   module _ (r : ℕ) (k : Kind) (is : R r .kind ≡ k) where
-    pub ask-calls : (n : ℕ) → AskEnds (suc n) R r ↔ asksBy k (AskEnds n R (R r .left)) (AskEnds n R (R r .right)) (LeaveEnds n R r)
-    unfolding AskEnds
-    ask-calls n =
-        let calls : Kind → Type 0 = λ κ. asksBy κ (AskEnds n R (R r .left)) (AskEnds n R (R r .right)) (LeaveEnds n R r) in
+    pub enter-calls : (n : ℕ) → EnterEnds (suc n) R r ↔ entersBy k (EnterEnds n R (R r .left)) (EnterEnds n R (R r .right))
+    unfolding EnterEnds
+    enter-calls n =
+        let calls : Kind → Type 0 = λ κ. entersBy κ (EnterEnds n R (R r .left)) (EnterEnds n R (R r .right)) in
         (subst calls is, subst calls (sym is))
 
-    pub ask-once : (n : ℕ) (t : Tick) → askRow (suc n) R r t ≡ askBy k t (askRow n R (R r .left) t) (askRow n R (R r .right) t) (leaveRow n R r t)
-    unfolding askRow
-    ask-once n t = ap (λ κ. askBy κ t (askRow n R (R r .left) t) (askRow n R (R r .right) t) (leaveRow n R r t)) is
+    pub enter-once : (n : ℕ) (t : Tick) → enterRow (suc n) R r t ≡ enterBy k t (enterRow n R (R r .left) t) (enterRow n R (R r .right) t)
+    unfolding enterRow
+    enter-once n t = ap (λ κ. enterBy κ t (enterRow n R (R r .left) t) (enterRow n R (R r .right) t)) is
 
     -- where n calls are enough, N are not fewer, and all calls may have N
-    pub ask-unfolds : (n N : ℕ) → AskEnds n R r → n ≤ N → (t : Tick)
-        → askRow N R r t ≡ askBy k t (askRow N R (R r .left) t) (askRow N R (R r .right) t) (leaveRow N R r t)
+    pub enter-unfolds : (n N : ℕ) → EnterEnds n R r → n ≤ N → (t : Tick) → enterRow N R r t ≡ enterBy k t (enterRow N R (R r .left) t) (enterRow N R (R r .right) t)
+    unfolding EnterEnds
+    enter-unfolds zero N e h t = absurd e
+    enter-unfolds (suc n) N e h t =
+        ends-enter (suc n) N r e h .1 t ∙ enter-once n t
+        ∙ enters-same k t (λ x. sym (ends-enter n N (R r .left) x (omega arith) .1 t)) (λ x. sym (ends-enter n N (R r .right) x (omega arith) .1 t)) (enter-calls n .0 e)
+
+  -- ---- row r is asked ----
+
+  module _ (r : ℕ) where
+    pub ask-calls : (n : ℕ) (t : Tick) → AskEnds (suc n) R r t ↔ (EnterEnds n R r × (enterRow n R r t ≡ passed → LeaveEnds n R r t))
     unfolding AskEnds
-    ask-unfolds zero N e h t = absurd e
-    ask-unfolds (suc n) N e h t =
-        ends-ask (suc n) N r e h .1 t ∙ ask-once n t
-        ∙ asks-same k t (λ x. sym (ends-ask n N (R r .left) x (omega arith) .1 t)) (λ x. sym (ends-ask n N (R r .right) x (omega arith) .1 t))
-        (λ x. sym (ends-leave n N r x (omega arith) .1 t)) (ask-calls n .0 e)
+    ask-calls n t = (λ e. e, λ e. e)
+
+    pub ask-once : (n : ℕ) (t : Tick) → askRow (suc n) R r t ≡ goesBy (enterRow n R r t) (leaveRow n R r t)
+    unfolding askRow
+    ask-once n t = refl
+
+    -- entering it passes, whatever count that has: leaving it ends
+    pub passes-on : (n N : ℕ) (t : Tick) → AskEnds (suc n) R r t → n ≤ N → enterRow N R r t ≡ passed → LeaveEnds n R r t
+    passes-on n N t e h p = let (i, l) = ask-calls n t .0 e in l (sym (ends-enter n N r i h .1 t) ∙ p)
+
+    pub ask-unfolds : (n N : ℕ) (t : Tick) → AskEnds n R r t → n ≤ N → askRow N R r t ≡ goesBy (enterRow N R r t) (leaveRow N R r t)
+    unfolding AskEnds
+    ask-unfolds zero N t e h = absurd e
+    ask-unfolds (suc n) N t e h =
+        ends-ask (suc n) N r t e h .1 ∙ ask-once n t
+        ∙ goes-same (enterRow N R r t) (sym (ends-enter n N r (e .0) (omega arith) .1 t))
+        (λ p. sym (ends-leave n N r t (passes-on n N t e (omega arith) p) (omega arith) .1))
 
   -- ---- operand c of row r, of kind k, is left; o: it is the left one ----
 
@@ -144,9 +180,9 @@ module _ (R : Table) where
     no-monitor : eqb (R c .up) c ≡ false
     no-monitor = is-false (eqb (R c .up) c) (λ e. under .1 (sym (eqb→eq (R c .up) c e) ∙ under .0))
 
-    pub leave-calls : (n : ℕ) → LeaveEnds (suc n) R c ↔ leavesBy k o (AskEnds n R (R r .right)) (LeaveEnds n R r) (AskEnds n R r)
+    pub leave-calls : (n : ℕ) (t : Tick) → LeaveEnds (suc n) R c t ↔ leavesBy k o (AskEnds n R (R r .right) t) (LeaveEnds n R r t) (AskEnds n R r t)
     unfolding LeaveEnds
-    leave-calls n = (
+    leave-calls n t = (
       λ e. rw (← is, ← side, ← under .0) (rw no-monitor at e),
       λ e. rw (no-monitor, under .0, is, side) e,
     )
@@ -155,14 +191,14 @@ module _ (R : Table) where
     unfolding leaveRow
     leave-once n t = rw (no-monitor, under .0, is, side)
 
-    pub leave-unfolds : (n N : ℕ) → LeaveEnds n R c → n ≤ N → (t : Tick)
+    pub leave-unfolds : (n N : ℕ) (t : Tick) → LeaveEnds n R c t → n ≤ N
         → leaveRow N R c t ≡ leaveBy k o (askRow N R (R r .right) t) (leaveRow N R r t) (askRow N R r t)
     unfolding LeaveEnds
-    leave-unfolds zero N e h t = absurd e
-    leave-unfolds (suc n) N e h t =
-        ends-leave (suc n) N c e h .1 t ∙ leave-once n t
-        ∙ leaves-same k o (λ x. sym (ends-ask n N (R r .right) x (omega arith) .1 t)) (λ x. sym (ends-leave n N r x (omega arith) .1 t))
-        (λ x. sym (ends-ask n N r x (omega arith) .1 t)) (leave-calls n .0 e)
+    leave-unfolds zero N t e h = absurd e
+    leave-unfolds (suc n) N t e h =
+        ends-leave (suc n) N c t e h .1 ∙ leave-once n t
+        ∙ leaves-same k o (λ x. sym (ends-ask n N (R r .right) t x (omega arith) .1)) (λ x. sym (ends-leave n N r t x (omega arith) .1))
+        (λ x. sym (ends-ask n N r t x (omega arith) .1)) (leave-calls n t .0 e)
 
   -- ---- a monitor's own row is left ----
 
@@ -170,15 +206,15 @@ module _ (R : Table) where
     is-monitor : eqb (R r .up) r ≡ true
     is-monitor = is-true (eqb (R r .up) r) (rw own (eqb-refl r))
 
-    pub own-calls : (n : ℕ) → LeaveEnds (suc n) R r ↔ AskEnds n R r
+    pub own-calls : (n : ℕ) (t : Tick) → LeaveEnds (suc n) R r t ↔ AskEnds n R r t
     unfolding LeaveEnds
-    own-calls n = (λ e. rw is-monitor at e, λ e. rw is-monitor e)
+    own-calls n t = (λ e. rw is-monitor at e, λ e. rw is-monitor e)
 
     pub own-once : (n : ℕ) (t : Tick) → leaveRow (suc n) R r t ≡ askRow n R r t
     unfolding leaveRow
     own-once n t = rw is-monitor
 
-    pub own-unfolds : (n N : ℕ) → LeaveEnds n R r → n ≤ N → (t : Tick) → leaveRow N R r t ≡ askRow N R r t
+    pub own-unfolds : (n N : ℕ) (t : Tick) → LeaveEnds n R r t → n ≤ N → leaveRow N R r t ≡ askRow N R r t
     unfolding LeaveEnds
-    own-unfolds zero N e h t = absurd e
-    own-unfolds (suc n) N e h t = ends-leave (suc n) N r e h .1 t ∙ own-once n t ∙ sym (ends-ask n N r (own-calls n .0 e) (omega arith) .1 t)
+    own-unfolds zero N t e h = absurd e
+    own-unfolds (suc n) N t e h = ends-leave (suc n) N r t e h .1 ∙ own-once n t ∙ sym (ends-ask n N r t (own-calls n t .0 e) (omega arith) .1)

@@ -6,7 +6,7 @@ use mathlib.Core.Option.{Option, none, some}
 use Prim.Native.Nat.{ℕ, suc, _+_, _^_, _≤_, _<_}
 use native.Mathlib.Omega.{arith}
 use lib.ListN.{length, length-append}
-use borrow.Author.Tests.{eqb-true, eq-eqb, le-ltb, lt-leb}
+use borrow.Author.Tests.{eq-eqb, le-ltb, lt-leb}
 use Rattle.lexer.specs.Bytes.{lookup}
 use Rattle.lexer.specs.Tokens as token
 use Rattle.lexer.specs.Tokens.{Token, Placed}
@@ -18,6 +18,8 @@ use Rattle.meaning.specs.Reading.{Meaning, anInput, aStore, aDefine, aPr
 use Rattle.meaning.specs.Grammar
 use Rattle.meaning.specs.Grammar.{Stands, IsBit, IsLiteral, IsLiterals, IsWrite, IsWrites, IsLetter, IsAtom, IsStarred, IsPiped, IsSequence, IsAlternative, IsWidth, IsDeclaration, IsMonitors, IsText, plainTokens}
 use Rattle.meaning.proofs.ListLaws.{clash}
+use Rattle.meaning.proofs.Outcomes.{is-token}
+use Rattle.meaning.proofs.Within.{count-append}
 
 -- However the tokens ts are placed, reading them from x on gives p.
 record Reads (p : Program) (ns : Names) (x : Expect) (ts : List Token) : Type 0 where
@@ -60,14 +62,6 @@ data Refused (a : Step) : Type 0 where
 data Agrees (a b : Step) : Type 0 where
   same : a ≡ b → Agrees a b
   refused-first : Refused a → Agrees a b
-
-pub is-token : (k : ℕ) (t : Token) → Reading.isSign k t ≡ true → t ≡ token.sign k
-is-token k (token.name s) e = clash (cc)
-is-token k (token.word w) e = clash (cc)
-is-token k (token.number n) e = clash (cc)
-is-token k (token.sign n) e = let h : k ≡ n = eqb-true k n e in cc
-is-token k token.end e = clash (cc)
-is-token k (token.refused n) e = clash (cc)
 
 refused-at : (ns : Names) (x : Expect) (k : ℕ) (q : Placed) → ((m n : ℕ) → Refused (step ns x (placed (token.sign k) m n))) → Reading.is k q ≡ true
     → Refused (step ns x q)
@@ -181,13 +175,6 @@ module _ (ns : Names) where
 
 -- ---- literals
 
-pub tests-append : (ks ls : List Literal) → storeTests (ks ++ ls) ≡ storeTests ks + storeTests ls
-unfolding storeTests
-tests-append [] ls = omega arith
-tests-append (wire lo w v ∷ ks) ls = tests-append ks ls
-tests-append (wire-store lo w s ∷ ks) ls = omega (arith, tests-append ks ls)
-tests-append (store s v ∷ ks) ls = omega (arith, tests-append ks ls)
-
 -- the literals keep to the limit of their context
 abbrev pub Fits : Context → List Literal → Type 0
 Fits (inDefine s) ls = Unit {0}
@@ -195,11 +182,11 @@ Fits (inLetter o) ls = storeTests ls ≤ 2
 
 fits-more : (c : Context) (ks ls : List Literal) → Fits c (ks ++ ls) → tooMany c ks (storeTests ls) ≡ false
 fits-more (inDefine s) ks ls h = refl
-fits-more (inLetter o) ks ls h = le-ltb 2 (storeTests ks + storeTests ls) (omega (arith, tests-append ks ls))
+fits-more (inLetter o) ks ls h = le-ltb 2 (storeTests ks + storeTests ls) (omega (arith, count-append ks ls))
 
 fits-before : (c : Context) (ks ls : List Literal) → Fits c (ks ++ ls) → Fits c ks
 fits-before (inDefine s) ks ls h = tt
-fits-before (inLetter o) ks ls h = omega (arith, tests-append ks ls)
+fits-before (inLetter o) ks ls h = omega (arith, count-append ks ls)
 
 module _ {p : Program} {ns : Names} {c : Context} where
   -- a bit behind whatever a wire's name leads from, that is to be v

@@ -1,6 +1,7 @@
 -- What follows from the definitions. Openings has the headline: on every accepted text the machine of active positions replies as the meaning does.
 pub mod ListLaws
 pub mod Step
+pub mod Entering
 pub mod OneWay
 pub mod Active
 pub mod Monitor
@@ -18,6 +19,7 @@ pub mod Ends
 pub mod Walk
 pub mod Calls
 pub mod Steps
+pub mod Outcomes
 pub mod Stops
 pub mod Summary
 pub mod Shifted

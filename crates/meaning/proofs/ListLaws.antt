@@ -4,9 +4,8 @@ pub use mathlib.Core.List.{List·Memᴰ·head as here, List·Memᴰ·tail as the
 use mathlib.Core.Bool.{Bool, true, false, _&&_, _||_}
 use mathlib.Core.Path.{_≡_, refl, sym, ap, _∙_, subst, fun-ext}
 use mathlib.Core.Logic.{_⊎_, inl, inr}
-use Prim.Native.Nat.{ℕ}
-use native.Mathlib.Omega.{arith}
 use lib.Dec.{T}
+pub use Rattle.trace.proofs.Clash.{clash}
 use Rattle.meaning.specs.Lists.{_∈_, carry, each, any, all, only}
 
 module _ {A B : Type 0} where
@@ -77,6 +76,12 @@ module _ {A : Type 0} where
   only-∈ true i = (tt, i)
   only-∈ false i = absurd (no-∈ i)
 
+pub same-truth : (a b : Bool) → (T a → T b) → (T b → T a) → a ≡ b
+same-truth true true f g = refl
+same-truth true false f g = absurd (f tt)
+same-truth false true f g = absurd (g tt)
+same-truth false false f g = refl
+
 pub is-true : (b : Bool) → T b → b ≡ true
 is-true true t = refl
 is-true false t = absurd t
@@ -112,7 +117,3 @@ none-in {x} p i = no-∈ (subst (λ l. x ∈ l) p i)
 pub carry-append : {A B : Type 0} (f : B → A → B) (b : B) (xs ys : List A) → carry f b (xs ++ ys) ≡ carry f (carry f b xs) ys
 carry-append f b [] ys = refl
 carry-append f b (x ∷ xs) ys = carry-append f (f b x) xs ys
-
--- a constructor clash, by congruence
-pub clash : {A : Type 0} → _≡_ {A = ℕ} 0 1 → A
-clash p = absurd (omega arith)

@@ -15,7 +15,7 @@ use borrow.Author.Tests.{le-leb, lt-leb, lt-ltb, le-ltb}
 use Rattle.meaning.specs.Lists.{_∈_, any, all}
 use Rattle.meaning.specs.Expression.{Literal, wire, wire-store, store, field}
 use Rattle.meaning.specs.Shape.{bit, asks, agree, wireHolds, Sized, AllSized}
-use Rattle.meaning.proofs.ListLaws.{here, there, cons-∈, no-∈, append-∈, ∈-left, ∈-right, and-T, T-and, all-at, all-from, any-from, any-to}
+use Rattle.meaning.proofs.ListLaws.{here, there, cons-∈, no-∈, append-∈, ∈-left, ∈-right, and-T, T-and, all-at, all-from, any-from, any-to, same-truth, clash}
 use Rattle.meaning.proofs.Bits.{agree-if, all-append, met-if, bit-field, same-bits, asked-bit, digit-is, asks-own, in-below}
 use Rattle.meaning.specs.Masks.{lookOf, wantOf, look, want, passes, compatible}
 
@@ -73,24 +73,21 @@ is-bit (suc (suc x)) h = absurd (omega arith)
 pub bit-is : (i a : ℕ) → Bit (bit i a)
 bit-is i a = is-bit (bit i a) (bit-lt i a)
 
-differ : _≡_ {A = ℕ} 0 1 → ⊥
-differ e = omega arith
-
 -- x and y are alike, or nobody looks
 alike-if : {x y a : ℕ} → Bit x → Bit y → Bit a → (a ≡ 1 → x ≡ y) → bitAnd (bitXor x y) a ≡ 0
 alike-if off off off h = refl
 alike-if off off on h = refl
 alike-if off on off h = refl
-alike-if off on on h = absurd (differ (h refl))
+alike-if off on on h = clash (h refl)
 alike-if on off off h = refl
-alike-if on off on h = absurd (differ (sym (h refl)))
+alike-if on off on h = clash (sym (h refl))
 alike-if on on off h = refl
 alike-if on on on h = refl
 
 alike-then : {x y : ℕ} → Bit x → Bit y → bitAnd (bitXor x y) 1 ≡ 0 → x ≡ y
 alike-then off off e = refl
-alike-then off on e = absurd (differ (sym e))
-alike-then on off e = absurd (differ (sym e))
+alike-then off on e = clash (sym e)
+alike-then on off e = clash (sym e)
 alike-then on on e = refl
 
 or-left : {x y : ℕ} → Bit y → x ≡ 1 → bitOr x y ≡ 1
@@ -102,7 +99,7 @@ or-right off e = rw e
 or-right on e = rw e
 
 or-cases : {x y : ℕ} → Bit x → Bit y → bitOr x y ≡ 1 → (x ≡ 1) ⊎ (y ≡ 1)
-or-cases off off e = absurd (differ e)
+or-cases off off e = clash e
 or-cases off on e = inr refl
 or-cases on b e = inl refl
 
@@ -137,12 +134,12 @@ in-field i lo width = elim (decLt i lo) [ yes l ↦ inl l | no g ↦ inr (i - lo
 -- a literal looks at a wire exactly where it asks for one of the two values there
 asks-some : (i : ℕ) (l : Literal) → bit i (lookOf l) ≡ 1 → (b : ℕ) × (b < 2) × T (asks i b l)
 asks-some i (wire lo width v) h =
-    ⊎-elim (λ l. absurd (differ (sym (bit-below i lo (2 ^ width - 1) l) ∙ h)))
+    ⊎-elim (λ l. clash (sym (bit-below i lo (2 ^ width - 1) l) ∙ h))
     (λ (j, e, c). ⊎-elim (λ l. (bit j v, bit-lt j v, subst (λ (k : ℕ). T (asks k (bit j v) (wire lo width v))) (sym e) (asks-own lo width v j l)))
-    (λ l. absurd (differ (sym (bit-over j width (2 ^ width - 1) (ones-lt width) l) ∙ sym (bit-above j lo (2 ^ width - 1)) ∙ ap (λ (k : ℕ). bit k ((2 ^ width - 1) * 2 ^ lo)) (sym e) ∙ h))) c)
+    (λ l. clash (sym (bit-over j width (2 ^ width - 1) (ones-lt width) l) ∙ sym (bit-above j lo (2 ^ width - 1)) ∙ ap (λ (k : ℕ). bit k ((2 ^ width - 1) * 2 ^ lo)) (sym e) ∙ h)) c)
     (in-field i lo width)
-asks-some i (wire-store lo width s) h = absurd (differ (sym (zero-bit i) ∙ h))
-asks-some i (store s v) h = absurd (differ (sym (zero-bit i) ∙ h))
+asks-some i (wire-store lo width s) h = clash (sym (zero-bit i) ∙ h)
+asks-some i (store s v) h = clash (sym (zero-bit i) ∙ h)
 
 looks-own : (lo width v j : ℕ) → j < width → bit (lo + j) (lookOf (wire lo width v)) ≡ 1
 looks-own lo width v j h = bit-above j lo (2 ^ width - 1) ∙ bit-ones j width h
@@ -179,7 +176,7 @@ want-bit i (l ∷ ls) sized =
 
 look-some : (i : ℕ) (ls : List Literal) → bit i (look ls) ≡ 1 → (b : ℕ) × (b < 2) × (l : Literal) × (l ∈ ls) × T (asks i b l)
 unfolding look
-look-some i [] h = absurd (differ (sym (zero-bit i) ∙ h))
+look-some i [] h = clash (sym (zero-bit i) ∙ h)
 look-some i (l ∷ ls) h =
     ⊎-elim (λ e. let (b, d, t) = asks-some i l e in (b, d, l, here refl, t))
     (λ e. let (b, d, x, j, t) = look-some i ls e in (b, d, x, there j, t))
@@ -238,9 +235,9 @@ module _ (ls : List Literal) (sized : AllSized ls) (agreed : T (agree ls)) where
 -- ---- two lists of literals
 
 and-on : {x y : ℕ} → Bit x → Bit y → bitAnd x y ≡ 1 → (x ≡ 1) × (y ≡ 1)
-and-on off off e = absurd (differ e)
-and-on off on e = absurd (differ e)
-and-on on off e = absurd (differ e)
+and-on off off e = clash e
+and-on off on e = clash e
+and-on on off e = clash e
 and-on on on e = (refl, refl)
 
 asks-look : (i b : ℕ) (l : Literal) → T (asks i b l) → bit i (lookOf l) ≡ 1
@@ -260,12 +257,12 @@ want-looks i ls sized h = by (any (asks i 1) ls) refl (sym (want-bit i ls sized)
   where
     by : (t : Bool) → any (asks i 1) ls ≡ t → _≡_ {A = ℕ} (cond t 1 0) 1 → bit i (look ls) ≡ 1
     by true e f = let (l, j, a) = any-to (asks i 1) ls (subst T (sym e) tt) in look-at i ls l j (asks-look i 1 l a)
-    by false e f = absurd (differ f)
+    by false e f = clash f
 
 -- where the other wants nothing new, one's own value stays
 own-value : {x y : ℕ} → Bit x → Bit y → (y ≡ 1 → x ≡ y) → bitOr x y ≡ x
 own-value off off h = refl
-own-value off on h = absurd (differ (h refl))
+own-value off on h = clash (h refl)
 own-value on off h = refl
 own-value on on h = refl
 
@@ -366,12 +363,6 @@ want-append = mask-append wantOf want-of-small want refl (λ l ls. refl)
 pub want-small : (ls : List Literal) → AllSized ls → want ls < 2 ^ 64
 unfolding want
 want-small = mask-small wantOf want-of-small want refl (λ l ls. refl)
-
-same-truth : (a b : Bool) → (T a → T b) → (T b → T a) → a ≡ b
-same-truth true true f g = refl
-same-truth true false f g = absurd (f tt)
-same-truth false true f g = absurd (g tt)
-same-truth false false f g = refl
 
 pub sized-append : (xs ys : List Literal) → AllSized xs → AllSized ys → AllSized (xs ++ ys)
 sized-append xs ys sx sy l i = ⊎-elim (sx l) (sy l) (append-∈ xs i)

@@ -3,7 +3,7 @@ use mathlib.Core.List.{List, [], _∷_, _++_}
 use mathlib.Core.Bool.{Bool, true, false, not, cond}
 use mathlib.Core.Option.{none, some, Option·none-ne-some, Option·some-injective}
 use mathlib.Core.Logic.{inl, inr}
-use mathlib.Core.Path.{_≡_, refl, sym, ap, ap₂, _∙_, subst, fun-ext}
+use mathlib.Core.Path.{_≡_, refl, sym, ap, ap₂, _∙_, subst}
 use Prim.Native.Nat.{ℕ}
 use lib.Dec.{T, eqb}
 use lib.ListN.{length, getD}
@@ -11,12 +11,12 @@ use Rattle.meaning.specs.Lists.{null, member, _∈_}
 use Rattle.meaning.specs.Expression.{Literal, wire, wire-store, store, Letter, Exp, letter, seq, alt, star, pipe, letters}
 use Rattle.meaning.specs.Shape.{SideBySide, meetsWires, wireHolds, first, follow, threads, together}
 use Rattle.meaning.specs.Fit.{Tick, meets, holds, Run, Rest, pastTheEnd, anything, nothing, merge, both, runs, monitor, fits, met}
-use Rattle.meaning.specs.Positions.{Way, stuck, joined, has, leave, Positions, at-start, on, goAll, go}
-use Rattle.meaning.proofs.ListLaws.{here, there, no-∈, ∈-left, ∈-right, each-∈, ∈-each, any-from, any-to, all-at, all-from}
+use Rattle.meaning.specs.Positions.{Way, stuck, has, leave, Positions, at-start, on, goAll, go}
+use Rattle.meaning.proofs.ListLaws.{here, there, no-∈, ∈-left, ∈-right, each-∈, ∈-each, any-from, any-to, all-at, all-from, same-truth}
 use Rattle.meaning.proofs.Step.{Solid, ended, Good, afters, Placed, step, steps, good-nothing}
 use Rattle.meaning.proofs.OneWay.{Same, Excludes, Exclusive, Numbered, Closed, Threads, same-runs, one-way}
 use Rattle.meaning.proofs.Bits.{meets-together}
-use Rattle.meaning.proofs.Active.{Exact, way, lead-both, ask-way, leave-way, after, somewhere, placed, then, then-some, positionsAfter, ways, runs-if, goes-if, positions-if, one-run}
+use Rattle.meaning.proofs.Active.{Leads, leads-both, ask-leads, leave-leads, after, somewhere, placed, then, then-some, positionsAfter, rest, Exact, runs-if, goes-if, positions-if, one-run}
 
 -- rule 12: no word meets two letters side by side
 abbrev pub Unambiguous : Exp → Type 0
@@ -79,14 +79,8 @@ pub is-null : (A : List Run) → ((r : Run) → r ∈ A → ⊥) → null A ≡ 
 is-null [] h = refl
 is-null (r ∷ A) h = absurd (h r (here refl))
 
-pub same-test : (a b : Bool) → (T a → T b) → (T b → T a) → a ≡ b
-same-test true true f g = refl
-same-test true false f g = absurd (f tt)
-same-test false true f g = absurd (g tt)
-same-test false false f g = refl
-
 pub same-member : (ns ms : List ℕ) → ((k : ℕ) → k ∈ ns → k ∈ ms) → ((k : ℕ) → k ∈ ms → k ∈ ns) → (k : ℕ) → member k ns ≡ member k ms
-same-member ns ms f g k = same-test _ _
+same-member ns ms f g k = same-truth _ _
     (λ t. let (n, i, e) = any-to (eqb k) ns t in any-from (eqb k) (f n i) e)
     (λ t. let (n, i, e) = any-to (eqb k) ms t in any-from (eqb k) (g n i) e)
 
@@ -136,7 +130,19 @@ module _ (m : Exp) (ac : Accepted m) where
       (threads-exclusive t m (thread-exclusive t))
       (follow-exclusive t) (λ n h. no-runs t (follow n (star m))) l i)
 
-  exact : Exact (monitor m) (following m)
+  -- the machine goes as one of the runs does
+  go-leads : (x : Positions) (t : Tick) → Leads (go m x t) (rest (monitor m) (following m) x (t ∷ []))
+  unfolding go goAll afters
+  go-leads at-start t = ask-leads (star m) nothing none (ac .solid) refl t (λ h r i. no-∈ i)
+  go-leads (on ns) t = all-lead ns
+    where
+      all-lead : (ns : List ℕ) → Leads (goAll (λ n. leave n (star m) stuck) ns t) (afters (following m) ns (t ∷ []))
+      all-lead [] = ([], here refl, refl)
+      all-lead (n ∷ ns) =
+          leads-both (leave n (star m) stuck t) (goAll (λ n. leave n (star m) stuck) ns t) (following m n (t ∷ [])) (afters (following m) ns (t ∷ []))
+          (leave-leads n (star m) nothing stuck (ac .solid) refl t (λ r i. no-∈ i)) (all-lead ns)
+
+  exact : Exact (monitor m) (following m) (go m)
   exact =
       record {
         start-ends = ended (star m) nothing refl;
@@ -145,51 +151,34 @@ module _ (m : Exp) (ac : Accepted m) where
         G-good = letter-good;
         start-same = start-same;
         G-same = letter-same;
+        goes = go-leads;
       }
-
-  -- the machine's step is the runs' step
-  go-ways : (x : Positions) (t : Tick) → go m x t ≡ ways (monitor m) (following m) x t
-  unfolding go goAll afters
-  go-ways at-start t = sym (ask-way (star m) nothing (ac .solid) refl t)
-  go-ways (on ns) t = all-ways ns
-    where
-      all-ways : (ns : List ℕ) → goAll (λ n. leave n (star m) stuck) ns t ≡ way (afters (following m) ns) t
-      all-ways [] = refl
-      all-ways (n ∷ ns) =
-          ap₂ joined (sym (leave-way n (star m) nothing (ac .solid) refl t)) (all-ways ns)
-          ∙ sym (lead-both (following m n (t ∷ [])) (afters (following m) ns (t ∷ [])))
-
-  same-machine : go m ≡ ways (monitor m) (following m)
-  same-machine = fun-ext (λ x. fun-ext (go-ways x))
 
   -- where the machine goes on the ticks fit
   pub fits-yes : (ts : List Tick) (y : Positions) → positionsAfter (go m) at-start ts ≡ some y → fits m ts ≡ true
   fits-yes ts y p =
-      let (r, i) = runs-if (monitor m) (following m) exact ts at-start y (subst (λ W. positionsAfter W at-start ts ≡ some y) same-machine p) in
+      let (r, i) = runs-if (monitor m) (following m) (go m) exact ts at-start y p in
       ap not (not-null i)
 
   -- where it does not they do not
   pub fits-no : (ts : List Tick) → positionsAfter (go m) at-start ts ≡ none → fits m ts ≡ false
   fits-no ts p = ap not (is-null (monitor m ts) (λ r i.
-      let (y, q) = goes-if (monitor m) (following m) exact ts at-start r i in
-      Option·none-ne-some y (sym p ∙ ap (λ W. positionsAfter W at-start ts) same-machine ∙ q)))
+      let (y, q) = goes-if (monitor m) (following m) (go m) exact ts at-start r i in
+      Option·none-ne-some y (sym p ∙ q)))
 
   -- its positions are the letters met at the last tick
   pub positions-met : (ts : List Tick) (t : Tick) (ns : List ℕ) → positionsAfter (go m) at-start (ts ++ t ∷ []) ≡ some (on ns)
       → (k : ℕ) → member k (met m ts t) ≡ member k ns
   positions-met ts t ns p = same-member (met m ts t) ns
       (λ k i. let (r, j, l) = each-∈ (monitor m (ts ++ t ∷ [])) (λ r. getD r (length ts) []) i in subst (λ z. k ∈ z) (all-same r j) l)
-      (λ k i. let (r, j) = runs-if (monitor m) (following m) exact (ts ++ t ∷ []) at-start (on ns) (sym eq ∙ p) in
+      (λ k i. let (r, j) = runs-if (monitor m) (following m) (go m) exact (ts ++ t ∷ []) at-start (on ns) p in
       ∈-each (λ r. getD r (length ts) []) j (subst (λ z. k ∈ z) (sym (all-same r j)) i))
     where
-      eq : positionsAfter (go m) at-start (ts ++ t ∷ []) ≡ positionsAfter (ways (monitor m) (following m)) at-start (ts ++ t ∷ [])
-      eq = ap (λ W. positionsAfter W at-start (ts ++ t ∷ [])) same-machine
-
       all-same : (r : Run) → r ∈ monitor m (ts ++ t ∷ []) → getD r (length ts) [] ≡ ns
       all-same r j =
-          let q : some (on (getD r (length ts) [])) ≡ some (on ns) = sym (positions-if (monitor m) (following m) exact ts t at-start r j) ∙ sym eq ∙ p in
+          let q : some (on (getD r (length ts) [])) ≡ some (on ns) = sym (positions-if (monitor m) (following m) (go m) exact ts t at-start r j) ∙ p in
           cc
 
   -- all branches that fit have the same run
   pub one-run-only : (ts : List Tick) (r s : Run) → r ∈ monitor m ts → s ∈ monitor m ts → r ≡ s
-  one-run-only ts r s i j = one-run (monitor m) (following m) exact ts at-start r s i j
+  one-run-only ts r s i j = one-run (monitor m) (following m) (go m) exact ts at-start r s i j

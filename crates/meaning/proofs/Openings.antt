@@ -23,7 +23,7 @@ use Rattle.meaning.specs.Calls.{replies, machineReplies}
 use Rattle.meaning.proofs.ListLaws.{clash, cons-∈, no-∈, one-∈, map-∈, append-∈}
 use Rattle.meaning.proofs.Numbering.{renumbered-size, renumbered-rows, renumbered-ordered}
 use Rattle.meaning.proofs.Rows.{rows-no-more, program-held}
-use Rattle.meaning.proofs.RowCount.{rows-below-1024}
+use Rattle.meaning.proofs.RowCount.{rows-below-1024, total-renumbered}
 use Rattle.meaning.proofs.Rules.{unsatisfiable-at, ambiguous-at}
 use Rattle.meaning.proofs.Calls.{calls-right}
 use Rattle.meaning.proofs.Within.{Each, Within, LetterWithin, ExpWithin, read-within}
@@ -85,10 +85,6 @@ accepted-text text o e = by (read text) refl e
     by (refused number place) q f = clash (cc)
 
 -- ---- the theorems
-
-total-renumbered : (f : Exp → ℕ) → ((e : Exp) → f (renumbered 0 e) ≡ f e) → (ms : List Exp) → total f (map (renumbered 0) ms) ≡ total f ms
-total-renumbered f same [] = refl
-total-renumbered f same (m ∷ ms) = rw (same m, total-renumbered f same ms)
 
 module _ (text : List ℕ) (o : Opened) (e : openText text ≡ value o) where
   a : Accepted text o

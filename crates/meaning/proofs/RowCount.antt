@@ -2,7 +2,7 @@
 use mathlib.Core.List.{List, [], _∷_, map}
 use mathlib.Core.Bool.{Bool, true, false, not, cond}
 use mathlib.Core.Option.{Option, none, some}
-use mathlib.Core.Path.{_≡_, refl, sym, ap₂, subst}
+use mathlib.Core.Path.{_≡_, refl, sym, subst}
 use Prim.Native.Nat.{ℕ, _+_, _*_, _≤_, _<_}
 use native.Mathlib.Omega.{arith}
 use lib.Dec.{T}
@@ -69,14 +69,14 @@ pub rows-below-1024 : (ms : List Exp) → ((m : Exp) → m ∈ ms → shape m �
 rows-below-1024 [] h b = omega arith
 rows-below-1024 (m ∷ ms) h b = omega (arith, rows-bound m (h m (here refl)), total-bound ms (λ n i. h n (there i)))
 
+pub total-renumbered : (f : Exp → ℕ) → ((e : Exp) → f (renumbered 0 e) ≡ f e) → (ms : List Exp) → total f (map (renumbered 0) ms) ≡ total f ms
+total-renumbered f same [] = refl
+total-renumbered f same (m ∷ ms) = rw (same m, total-renumbered f same ms)
+
 -- the same where the letters have yet to be numbered
 pub renumbered-below-1024 : (ms : List Exp) → ((m : Exp) → m ∈ ms → shape (renumbered 0 m) ≡ accepted) → total size ms ≤ 256 → total rows ms < 1024
 renumbered-below-1024 ms h b =
-    subst (λ n. n < 1024) (total-same rows (renumbered-rows 0) ms)
+    subst (λ n. n < 1024) (total-renumbered rows (renumbered-rows 0) ms)
     (rows-below-1024 (map (renumbered 0) ms)
     (λ m i. let (e, j, p) = map-∈ (renumbered 0) ms i in subst (λ z. shape z ≡ accepted) p (h e j))
-    (subst (λ n. n ≤ 256) (sym (total-same size (renumbered-size 0) ms)) b))
-  where
-    total-same : (f : Exp → ℕ) → ((m : Exp) → f (renumbered 0 m) ≡ f m) → (ms : List Exp) → total f (map (renumbered 0) ms) ≡ total f ms
-    total-same f h [] = refl
-    total-same f h (m ∷ ms) = ap₂ _+_ (h m) (total-same f h ms)
+    (subst (λ n. n ≤ 256) (sym (total-renumbered size (renumbered-size 0) ms)) b))

@@ -9,7 +9,7 @@ use lib.Dec.{T, eqb, eqb→eq, eqb-refl}
 use Rattle.meaning.specs.Lists.{only, member, _∈_}
 use Rattle.meaning.specs.Expression.{Letter, Exp, letter, seq, alt, star, pipe, letters}
 use Rattle.meaning.specs.Fit.{Tick, meets}
-use Rattle.meaning.specs.Positions.{Way, stuck, over, orElse, joined, ask, has, leave, Positions, at-start, on, goAll, go, kept}
+use Rattle.meaning.specs.Positions.{Way, stuck, over, joined, Entered, met, passed, blocked, thenEnter, orEnter, orPass, enter, goesBy, ask, has, leave, Positions, at-start, on, goAll, go, kept}
 use Rattle.meaning.proofs.ListLaws.{here, there, cons-∈, no-∈, append-∈, ∈-left, ∈-right, ∈-cast, one-∈, each-∈, ∈-each, ∈-only, only-∈, any-from, any-to}
 use Rattle.meaning.proofs.OneWay.{Has}
 
@@ -106,10 +106,6 @@ inside-none m ns p = absurd (Option·none-ne-some ns p)
 inside-over : (m : Exp) → Inside m (some [])
 inside-over m ns p k i = absurd (no-∈ (subst (λ l. k ∈ l) (sym (Option·some-injective [] ns p)) i))
 
-inside-or : (m : Exp) (o q : Option (List ℕ)) → Inside m o → Inside m q → Inside m (orElse o q)
-inside-or m none q a b = b
-inside-or m (some ns) q a b = a
-
 inside-joined : (m : Exp) (o q : Option (List ℕ)) → Inside m o → Inside m q → Inside m (joined o q)
 inside-joined m o q a b ns p k i =
     let (cs, bs, c, d, e) = joined-some o q ns p in
@@ -123,18 +119,48 @@ inside-cond m false o q c d = d
 abbrev Part : Exp → Exp → Type 0
 Part m e = (l : Letter) → l ∈ letters e → Has (l .number) m
 
+-- a letter that entering met is the monitor's
+abbrev MetIn : Exp → Entered → Type 0
+MetIn m (met n) = Has n m
+MetIn m passed = Unit {0}
+MetIn m blocked = Unit {0}
+
+met-letter : (m : Exp) (n : ℕ) (b : Bool) → Has n m → MetIn m (cond b (met n) blocked)
+met-letter m n true h = h
+met-letter m n false h = tt
+
+met-then : (m : Exp) (a b : Entered) → MetIn m a → MetIn m b → MetIn m (thenEnter a b)
+met-then m (met n) b p q = p
+met-then m passed b p q = q
+met-then m blocked b p q = tt
+
+met-or : (m : Exp) (a b : Entered) → MetIn m a → MetIn m b → MetIn m (orEnter a b)
+met-or m (met n) b p q = p
+met-or m passed (met n) p q = q
+met-or m passed passed p q = tt
+met-or m passed blocked p q = tt
+met-or m blocked b p q = q
+
+met-star : (m : Exp) (a : Entered) → MetIn m a → MetIn m (orPass a)
+met-star m (met n) p = p
+met-star m passed p = tt
+met-star m blocked p = tt
+
+enter-inside : (m e : Exp) (t : Tick) → Part m e → MetIn m (enter e t)
+unfolding enter letters
+enter-inside m (letter l) t h = met-letter m (l .number) (meets l t) (h l (here refl))
+enter-inside m (seq e f) t h = met-then m (enter e t) (enter f t) (enter-inside m e t (λ l i. h l (∈-left (letters f) i))) (enter-inside m f t (λ l i. h l (∈-right (letters e) i)))
+enter-inside m (alt e f) t h = met-or m (enter e t) (enter f t) (enter-inside m e t (λ l i. h l (∈-left (letters f) i))) (enter-inside m f t (λ l i. h l (∈-right (letters e) i)))
+enter-inside m (star e) t h = met-star m (enter e t) (enter-inside m e t h)
+enter-inside m (pipe e f) t h = enter-inside m e t (λ l i. h l (∈-left (letters f) i))
+
+goes-inside : (m : Exp) (a : Entered) (o : Option (List ℕ)) → MetIn m a → Inside m o → Inside m (goesBy a o)
+goes-inside m (met n) o h g = λ ns p k i. subst (λ z. Has z m) (sym (one-∈ (subst (λ z. k ∈ z) (sym (Option·some-injective (n ∷ []) ns p)) i))) h
+goes-inside m passed o h g = g
+goes-inside m blocked o h g = inside-none m
+
 ask-inside : (m e : Exp) (K : Way) (t : Tick) → Part m e → Inside m (K t) → Inside m (ask e K t)
-unfolding ask letters
-ask-inside m (letter l) K t h k = inside-cond m (meets l t) _ none
-    (λ ns p n i. subst (λ z. Has z m) (sym (one-∈ (subst (λ z. n ∈ z) (sym (Option·some-injective (l .number ∷ []) ns p)) i))) (h l (here refl)))
-    (inside-none m)
-ask-inside m (seq e f) K t h k =
-    ask-inside m e (ask f K) t (λ l i. h l (∈-left (letters f) i)) (ask-inside m f K t (λ l i. h l (∈-right (letters e) i)) k)
-ask-inside m (alt e f) K t h k = inside-or m (ask e K t) (ask f K t)
-    (ask-inside m e K t (λ l i. h l (∈-left (letters f) i)) k) (ask-inside m f K t (λ l i. h l (∈-right (letters e) i)) k)
-ask-inside m (star e) K t h k = inside-or m (K t) (ask e stuck t) k (ask-inside m e stuck t h (inside-none m))
-ask-inside m (pipe e f) K t h k = ask-inside m e (λ u. joined (K u) (ask f over u)) t (λ l i. h l (∈-left (letters f) i))
-    (inside-joined m (K t) (ask f over t) k (ask-inside m f over t (λ l i. h l (∈-right (letters e) i)) (inside-over m)))
+ask-inside m e K t h k = goes-inside m (enter e t) (K t) (enter-inside m e t h) k
 
 leave-inside : (n : ℕ) (m e : Exp) (K : Way) (t : Tick) → Part m e → Inside m (K t) → Inside m (leave n e K t)
 unfolding leave letters

@@ -10,7 +10,7 @@ use borrow.Author.Tests.{eqb-true, eqb-false, eq-eqb, ne-eqb}
 use Rattle.meaning.specs.Lists.{any, carry, each, only, member}
 use Rattle.meaning.specs.Expression.{Letter, Exp, letter, seq, alt, star, pipe, letters, size, renumbered, Ordered}
 use Rattle.meaning.specs.Fit.{Tick, meets, write, writeMet}
-use Rattle.meaning.specs.Positions.{Way, stuck, over, orElse, joined, ask, has, leave, Positions, at-start, on, goAll, go, kept}
+use Rattle.meaning.specs.Positions.{Way, stuck, over, joined, Entered, met, passed, blocked, thenEnter, orEnter, orPass, enter, goesBy, ask, has, leave, Positions, at-start, on, goAll, go, kept}
 use Rattle.meaning.proofs.Step.{Solid}
 use Rattle.meaning.proofs.Summary.{nullable-renumbered}
 
@@ -23,6 +23,11 @@ module _ (k : ℕ) where
   abbrev pub shift : Option (List ℕ) → Option (List ℕ)
   shift none = none
   shift (some ns) = some (shiftAll ns)
+
+  abbrev pub shiftEntered : Entered → Entered
+  shiftEntered (met n) = met (k + n)
+  shiftEntered passed = passed
+  shiftEntered blocked = blocked
 
   abbrev pub shiftPositions : Positions → Positions
   shiftPositions at-start = at-start
@@ -75,11 +80,43 @@ module _ (k : ℕ) where
       over-all [] = refl
       over-all (l ∷ ls) = ap₂ _||_ (eqb-shifted n (l .number)) (over-all ls)
 
+  -- ---- entering ----
+
+  shift-met : (n : ℕ) (b : Bool) → cond b (met (k + n)) blocked ≡ shiftEntered (cond b (met n) blocked)
+  shift-met n true = refl
+  shift-met n false = refl
+
+  shift-then : (a b : Entered) → thenEnter (shiftEntered a) (shiftEntered b) ≡ shiftEntered (thenEnter a b)
+  shift-then (met n) b = refl
+  shift-then passed b = refl
+  shift-then blocked b = refl
+
+  shift-or : (a b : Entered) → orEnter (shiftEntered a) (shiftEntered b) ≡ shiftEntered (orEnter a b)
+  shift-or (met n) b = refl
+  shift-or passed (met n) = refl
+  shift-or passed passed = refl
+  shift-or passed blocked = refl
+  shift-or blocked b = refl
+
+  shift-star : (a : Entered) → orPass (shiftEntered a) ≡ shiftEntered (orPass a)
+  shift-star (met n) = refl
+  shift-star passed = refl
+  shift-star blocked = refl
+
+  pub enter-shifted : (e : Exp) (t : Tick) → enter (shifted e) t ≡ shiftEntered (enter e t)
+  unfolding enter shifted meets
+  enter-shifted (letter l) t = shift-met (l .number) (meets l t)
+  enter-shifted (seq e f) t = ap₂ thenEnter (enter-shifted e t) (enter-shifted f t) ∙ shift-then (enter e t) (enter f t)
+  enter-shifted (alt e f) t = ap₂ orEnter (enter-shifted e t) (enter-shifted f t) ∙ shift-or (enter e t) (enter f t)
+  enter-shifted (star e) t = ap orPass (enter-shifted e t) ∙ shift-star (enter e t)
+  enter-shifted (pipe e f) t = enter-shifted e t
+
   -- ---- ways ----
 
-  shift-or : (a b : Option (List ℕ)) → orElse (shift a) (shift b) ≡ shift (orElse a b)
-  shift-or none b = refl
-  shift-or (some ns) b = refl
+  shift-goes : (a : Entered) (o : Option (List ℕ)) → goesBy (shiftEntered a) (shift o) ≡ shift (goesBy a o)
+  shift-goes (met n) o = refl
+  shift-goes passed o = refl
+  shift-goes blocked o = refl
 
   shift-joined : (a b : Option (List ℕ)) → joined (shift a) (shift b) ≡ shift (joined a b)
   shift-joined none b = refl
@@ -98,12 +135,7 @@ module _ (k : ℕ) where
   joined-like L K M N h g t = ap₂ joined (h t) (g t) ∙ shift-joined (K t) (N t)
 
   pub ask-shifted : (e : Exp) (L K : Way) → Like L K → Like (ask (shifted e) L) (ask e K)
-  unfolding ask shifted meets
-  ask-shifted (letter l) L K h t = shift-cond (meets l t) (meets l t) _ none _ none refl refl refl
-  ask-shifted (seq e f) L K h t = ask-shifted e (ask (shifted f) L) (ask f K) (ask-shifted f L K h) t
-  ask-shifted (alt e f) L K h t = ap₂ orElse (ask-shifted e L K h t) (ask-shifted f L K h t) ∙ shift-or (ask e K t) (ask f K t)
-  ask-shifted (star e) L K h t = ap₂ orElse (h t) (ask-shifted e stuck stuck (λ u. refl) t) ∙ shift-or (K t) (ask e stuck t)
-  ask-shifted (pipe e f) L K h t = ask-shifted e _ _ (joined-like L K (ask (shifted f) over) (ask f over) h (ask-shifted f over over (λ u. refl))) t
+  ask-shifted e L K h t = ap₂ goesBy (enter-shifted e t) (h t) ∙ shift-goes (enter e t) (K t)
 
   pub leave-shifted : (n : ℕ) (e : Exp) (L K : Way) → Like L K → Like (leave (k + n) (shifted e) L) (leave n e K)
   unfolding leave shifted

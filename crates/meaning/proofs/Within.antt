@@ -1,26 +1,26 @@
 -- Every literal and every write of a program that reading gives lies within it: its wires are the text's, its stores are declared, a number that a wire is compared with
 -- fits it, and other numbers fit a word. A letter has two store tests and two writes at most. What holds of all that is kept while a text is read.
 -- Assumes nothing.
-use mathlib.Core.Path.{_≡_, refl, sym, subst}
-use mathlib.Core.Bool.{Bool, true, false, false≢true, cond, _||_}
+use mathlib.Core.Path.{_≡_, sym, subst}
+use mathlib.Core.Bool.{Bool, true, false}
 use mathlib.Core.List.{List, [], _∷_, _++_}
 use mathlib.Core.Option.{Option, none, some}
-use Prim.Native.Nat.{ℕ, suc, _+_, _^_, _≤_, _<_}
+use Prim.Native.Nat.{ℕ, _+_, _^_, _≤_, _<_}
 use native.Mathlib.Nat.{le-refl, lt-of-lt-of-le, zero-add}
 use native.Mathlib.Omega.{arith}
-use lib.Dec.{eqb, leb, ltb}
 use lib.ListN.{length, length-append}
 use lib.Pow.{pow-mono}
-use borrow.Author.Tests.{leb-false, ltb-false, eqb-true}
+use borrow.Author.Tests.{ltb-false}
 use Rattle.lexer.specs.Bytes.{Entry, same, lookup}
 use Rattle.lexer.specs.Tokens as token
-use Rattle.lexer.specs.Tokens.{Token, Placed, tokens}
+use Rattle.lexer.specs.Tokens.{Token}
 use Rattle.meaning.specs.Expression.{Literal, wire, wire-store, store, Write, from-wire, from-number, Exp, letter, seq, alt, star, pipe}
-use Rattle.meaning.specs.Answers.{value, refused, byte, overlong, oversize, crowded, twice}
+use Rattle.meaning.specs.Answers.{value}
 use Rattle.meaning.specs.Reading
-use Rattle.meaning.specs.Reading.{Meaning, anInput, aStore, aDefine, aProduction, Names, noNames, Declaration, newInput, newStore, newDefine, newProduction, declare, Level, Open, Context, inDefine, inLetter, Expect, statement, sign, nought, closing, inputName, inputMore, inputHigh, storeName, storeMore, storeHigh, storeFirst, defineName, operand, literal, negated, wireMore, bitIndex, wireEquals, storeEquals, literalMore, writeStore, writeValue, writeMore, operandMore, monitorName, monitorMore, textEnd, Program, Step, go, finished, fault, choose, atToken, notHere, unless, known, newName, step, readOn, read, behindOperand, behindLiteral, literalName, storeTests, tooMany, whole}
+use Rattle.meaning.specs.Reading.{Meaning, anInput, aStore, aDefine, aProduction, Names, Declaration, newInput, newStore, newDefine, newProduction, declare, Level, Open, Context, inDefine, inLetter, Expect, statement, sign, nought, closing, inputName, inputMore, inputHigh, storeName, storeMore, storeHigh, storeFirst, defineName, operand, literal, negated, wireMore, bitIndex, wireEquals, storeEquals, literalMore, writeStore, writeValue, writeMore, operandMore, monitorName, monitorMore, textEnd, Program, read, storeTests, tooMany, whole, behindWord}
+use Rattle.meaning.specs.Grammar.{Stands}
 use Rattle.meaning.proofs.ListLaws.{clash}
-use Rattle.meaning.proofs.Steps.{of-choose, of-if-number, of-unless, of-name, of-number, of-known}
+use Rattle.meaning.proofs.Outcomes.{LiteralNext, more-literals, first-literal, BehindLiterals, literals, one-wire, BehindOperand, operands, letters, WriteNext, first-write, more-writes, BySign, expected, closed, narrow-input, wide-input, narrow-store, wide-store, opened, negation, index, compared, joined, defined, writing, written, starred, piped, followed, or-else, level-closed, produced, more-monitors, all-monitors, ByNumber, zero-read, input-width, store-width, first-value, bit-index, wire-value, store-value, number-written, ByName, new-input, new-store, new-define, new-production, of-wire, of-store, of-define, of-production, of-negated, equal-store, store-written, wire-written, monitored, Next, by-sign, by-number, by-name, by-word, kept}
 
 -- ---- lists
 
@@ -180,11 +180,6 @@ pub record ProgramWithin (p : Program) : Type 0 where
   pub stores : length (p .initial) ≤ 16
   pub values : Each (λ v. v < 2 ^ 64) (p .initial)
 
-abbrev StepWithin : Step → Type 0
-StepWithin (go ns x) = NamesWithin ns × ExpectWithin (ns .wires) (storesOf ns) x
-StepWithin (finished p) = ProgramWithin p
-StepWithin (fault number place) = Unit {0}
-
 -- what is found among names lies within
 found : (n k : ℕ) (name : List ℕ) (es : List (Entry Meaning)) (m : Meaning) → Each (λ e. MeaningWithin n k (e .meaning)) es → lookup name es ≡ some m
     → MeaningWithin n k m
@@ -240,217 +235,149 @@ few-append (inLetter o) ls ds h = omega (arith, count-append ls ds)
 literals-append : (n k : ℕ) (c : Context) (ls ds : List Literal) → LiteralsWithin n k c ls (storeTests ds) → Each (Within n k) ds → LiteralsWithin n k c (ls ++ ds) 0
 literals-append n k c ls ds (g, h, few) q = (g, each-append (Within n k) ls ds h q, few-append c ls ds few)
 
-fits-word : (w v : ℕ) → w ≤ 64 → leb (2 ^ w) v ≡ false → v < 2 ^ 64
-fits-word w v l e = lt-of-lt-of-le (leb-false (2 ^ w) v e) (pow-mono {j = 64} l)
+fits-word : {w v : ℕ} → w ≤ 64 → v < 2 ^ w → v < 2 ^ 64
+fits-word l h = lt-of-lt-of-le h (pow-mono {j = 64} l)
 
 -- ---- expressions
 
-joined : (n k : ℕ) (op : Exp → Exp → Exp) → ((d e : Exp) → ExpWithin n k d → ExpWithin n k e → ExpWithin n k (op d e)) → (m : Option Exp) (e : Exp)
+join-within : (n k : ℕ) (op : Exp → Exp → Exp) → ((d e : Exp) → ExpWithin n k d → ExpWithin n k e → ExpWithin n k (op d e)) → (m : Option Exp) (e : Exp)
     → MaybeWithin n k m → ExpWithin n k e → ExpWithin n k (Reading.join op m e)
-joined n k op both none e p q = q
-joined n k op both (some d) e p q = both d e p q
+join-within n k op both none e p q = q
+join-within n k op both (some d) e p q = both d e p q
 
 module _ (n k : ℕ) (l : Level) (e : Exp) (g : LevelWithin n k l) (h : ExpWithin n k e) where
   piped-within : ExpWithin n k (Reading.piped l e)
-  piped-within = joined n k pipe (λ d f p q. (p, q)) (l .left) e (g .2) h
+  piped-within = join-within n k pipe (λ d f p q. (p, q)) (l .left) e (g .2) h
 
   sequenced-within : ExpWithin n k (Reading.sequenced l e)
-  sequenced-within = joined n k seq (λ d f p q. (p, q)) (l .seqs) (Reading.piped l e) (g .1) piped-within
+  sequenced-within = join-within n k seq (λ d f p q. (p, q)) (l .seqs) (Reading.piped l e) (g .1) piped-within
 
   whole-within : ExpWithin n k (whole l e)
-  whole-within = joined n k alt (λ d f p q. (p, q)) (l .alts) (Reading.sequenced l e) (g .0) sequenced-within
+  whole-within = join-within n k alt (λ d f p q. (p, q)) (l .alts) (Reading.sequenced l e) (g .0) sequenced-within
 
 -- ---- one token
 
-first : (a b : Bool) → (a || b) ≡ false → a ≡ false
-first true b e = e
-first false b e = refl
+-- the names lie within, and so does what is expected
+abbrev Kept : Names → Expect → Type 0
+Kept ns x = NamesWithin ns × ExpectWithin (ns .wires) (storesOf ns) x
 
-second : (a b : Bool) → (a || b) ≡ false → b ≡ false
-second true b e = absurd (false≢true (sym e))
-second false b e = e
-
-module _ (ns : Names) (names : NamesWithin ns) (t : Placed) where
-  P : Step → Type 0
-  P s = StepWithin s
-
-  own : (number : ℕ) → P (atToken number t)
-  unfolding P atToken
-  own number = tt
-
-  elsewhere : P (notHere t)
-  unfolding P notHere
-  elsewhere = tt
-
-  to : (x : Expect) → ExpectWithin (ns .wires) (storesOf ns) x → P (go ns x)
-  unfolding P
-  to x h = (names, h)
-
-  stands : (d : Declaration) → DeclarationWithin (ns .wires) (storesOf ns) d → P (go (declare d ns) statement)
-  unfolding P
+module _ (ns : Names) (names : NamesWithin ns) where
+  stands : (d : Declaration) → DeclarationWithin (ns .wires) (storesOf ns) d → Kept (declare d ns) statement
   stands d h = (declared-within d ns names h, tt)
 
-  either : (c : Bool) (a b : Step) → P a → P b → P (choose c a b)
-  either c a b p q = of-choose P c a b (λ e. p) (λ e. q)
-
-  here : (c : Bool) (x : Expect) → ExpectWithin (ns .wires) (storesOf ns) x → P (choose c (go ns x) (notHere t))
-  here c x h = either c (go ns x) (notHere t) (to x h) elsewhere
-
-  right : (wrong : Bool) (number : ℕ) (next : Step) → (wrong ≡ false → P next) → P (unless wrong number t next)
-  right wrong number next p = of-unless P t own wrong number next p
-
-  new : (a b : Bool) (next : List ℕ → Step) → (a ≡ false → b ≡ false → (s : List ℕ) → P (next s)) → P (newName ns t a b next)
-  unfolding newName
-  new a b next p = of-name P t own _ (λ s. right _ twice _ (λ e. right a oversize _ (λ f. right _ crowded _ (λ g. p f (first b _ g) s))))
-
-  with-known : (i s : ℕ → ℕ → Step) (d : List Literal → Step) (p : Exp → Step) → ((lo w : ℕ) → lo + w ≤ ns .wires → P (i lo w)) → ((n w : ℕ) → n < storesOf ns → w ≤ 64 → P (s n w))
-      → ((ls : List Literal) → Each (Within (ns .wires) (storesOf ns)) ls → P (d ls)) → ((e : Exp) → ExpWithin (ns .wires) (storesOf ns) e → P (p e)) → P (known ns t i s d p)
-  with-known i s d p pi ps pd pp =
-      of-known P t own ns i s d p (λ n a b e. pi a b (found (ns .wires) (storesOf ns) n (ns .declared) (anInput a b) (names .names) e)) (λ n a b e. let (k, l) = found (ns .wires) (storesOf ns) n (ns .declared) (aStore a b) (names .names) e in ps a b k l)
-      (λ n ls e. pd ls (found (ns .wires) (storesOf ns) n (ns .declared) (aDefine ls) (names .names) e)) (λ n x e. pp x (found (ns .wires) (storesOf ns) n (ns .declared) (aProduction x) (names .names) e))
-
-  rparen : (o : Open) (e : Exp) (ls : List Level) → LevelWithin (ns .wires) (storesOf ns) (o .level) → Each (LevelWithin (ns .wires) (storesOf ns)) ls → ExpWithin (ns .wires) (storesOf ns) e → P (Reading.onRightParen ns o e ls t)
-  rparen o e [] g gs h = elsewhere
-  rparen o e (l ∷ ls) g (k, ks) h = to _ ((k, ks), whole-within (ns .wires) (storesOf ns) (o .level) e g h)
-
-  semicolon : (o : Open) (e : Exp) (ls : List Level) → LevelWithin (ns .wires) (storesOf ns) (o .level) → ExpWithin (ns .wires) (storesOf ns) e → P (Reading.onSemicolon ns o e ls t)
-  semicolon o e [] g h = stands (newProduction (o .name) (whole (o .level) e)) (whole-within (ns .wires) (storesOf ns) (o .level) e g h)
-  semicolon o e (l ∷ ls) g h = elsewhere
-
-  operandly : (o : Open) (e : Exp) (b : Bool) → OpenWithin (ns .wires) (storesOf ns) o → ExpWithin (ns .wires) (storesOf ns) e → P (behindOperand ns o e b t)
-  unfolding behindOperand
-  operandly o e b (g, gs) h =
-      either _ _ _ (to _ ((g, gs), h))
-      (either _ _ _ (to _ ((g .0, g .1, h), gs))
-      (either _ _ _ (to _ ((g .0, sequenced-within (ns .wires) (storesOf ns) (o .level) e g h, tt), gs))
-      (either _ _ _ (to _ ((whole-within (ns .wires) (storesOf ns) (o .level) e g h, tt, tt), gs))
-      (either _ _ _ (rparen o e (o .outer) g gs h) (either _ _ _ (semicolon o e (o .outer) g h) elsewhere)))))
-
-  literally : (c : Context) (ls : List Literal) → LiteralsWithin (ns .wires) (storesOf ns) c ls 0 → P (behindLiteral ns c ls t)
-  unfolding behindLiteral
-  literally (inDefine s) ls g = either _ _ _ (to _ g) (either _ _ _ (stands (newDefine s ls) (g .1)) elsewhere)
-  literally (inLetter o) ls (g, h, few) =
-      let x : LetterWithin (ns .wires) (storesOf ns) ls [] = record { literals = h; writes = tt; few-tests = omega arith; few-writes = omega arith } in
-      either _ _ _ (to _ (g, h, few)) (either _ _ _ (to _ (g, x)) (operandly o _ false g x))
-
-  name-of-literal : (c : Context) (ls : List Literal) (pr : Exp → Step) → LiteralsWithin (ns .wires) (storesOf ns) c ls 0 → ((e : Exp) → ExpWithin (ns .wires) (storesOf ns) e → P (pr e))
-      → P (literalName ns c ls t pr)
-  unfolding literalName
-  name-of-literal c ls pr g p =
-      with-known _ _ _ _ (λ lo w k. to _ (g, k, omega arith)) (λ n w b l. right _ crowded _ (λ e. to _ ((g .0, g .1, few-if c ls 1 e), b, l)))
-      (λ ds k. right _ crowded _ (λ e. to _ (literals-append (ns .wires) (storesOf ns) c ls ds (g .0, g .1, few-if c ls (storeTests ds) e) k))) p
-
-  write : (o : Open) (ls : List Literal) (ws : List Write) → OpenWithin (ns .wires) (storesOf ns) o → LetterWithin (ns .wires) (storesOf ns) ls ws → P (Reading.writtenStore ns o ls ws t)
-  write o ls ws g h =
-      with-known _ _ _ _ (λ lo w k. own _) (λ n w b l. right _ crowded _ (λ e. to _ (g, h, leb-false 2 (length ws) e, b, l))) (λ d k. own _) (λ d k. own _)
+  -- a literal more
+  literal-behind : (c : Context) (ls : List Literal) (x : Literal) → LiteralsWithin (ns .wires) (storesOf ns) c ls (storeTests (x ∷ [])) → Within (ns .wires) (storesOf ns) x → LiteralsWithin (ns .wires) (storesOf ns) c (ls ++ (x ∷ [])) 0
+  literal-behind c ls x g h = literals-append (ns .wires) (storesOf ns) c ls (x ∷ []) g (h, tt)
 
   -- a write more
-  write-behind : (ls : List Literal) (ws : List Write) (x : Write) → LetterWithin (ns .wires) (storesOf ns) ls ws → length ws < 2 → WriteWithin (ns .wires) (storesOf ns) x
-      → LetterWithin (ns .wires) (storesOf ns) ls (ws ++ (x ∷ []))
-  write-behind ls ws x h few k =
+  write-behind : (ls : List Literal) (ws : List Write) (x : Write) → LetterWithin (ns .wires) (storesOf ns) ls ws → length ws < 2 → WriteWithin (ns .wires) (storesOf ns) x → LetterWithin (ns .wires) (storesOf ns) ls (ws ++ (x ∷ []))
+  write-behind ls ws x h few g =
       record {
         literals = h .literals;
-        writes = each-more (WriteWithin (ns .wires) (storesOf ns)) ws x (h .writes) k;
+        writes = each-more (WriteWithin (ns .wires) (storesOf ns)) ws x (h .writes) g;
         few-tests = h .few-tests;
         few-writes = omega (arith, length-append ws (x ∷ []));
       }
 
-  -- a literal more
-  literal-behind : (c : Context) (ls : List Literal) (x : Literal) → LiteralsWithin (ns .wires) (storesOf ns) c ls (storeTests (x ∷ [])) → Within (ns .wires) (storesOf ns) x
-      → LiteralsWithin (ns .wires) (storesOf ns) c (ls ++ (x ∷ [])) 0
-  literal-behind c ls x g k = literals-append (ns .wires) (storesOf ns) c ls (x ∷ []) g (k, tt)
+  unwritten : (o : Open) (ls : List Literal) → LiteralsWithin (ns .wires) (storesOf ns) (inLetter o) ls 0 → LetterWithin (ns .wires) (storesOf ns) ls []
+  unwritten o ls (g, l, few) = record { literals = l; writes = tt; few-tests = omega arith; few-writes = omega arith }
 
-  begin : (k : Token) → P (Reading.begin ns t k)
-  begin (token.name s) = new false false _ (λ e f s. to _ ((tt, tt, tt), tt))
-  begin (token.word token.input) = to _ tt
-  begin (token.word token.internal) = to _ tt
-  begin (token.word token.define) = to _ tt
-  begin (token.word token.monitor) = to _ tt
-  begin (token.number n) = elsewhere
-  begin (token.sign n) = elsewhere
-  begin token.end = elsewhere
-  begin (token.refused n) = elsewhere
+  literal-next : {x : Expect} {c : Context} {ls : List Literal} → LiteralNext x c ls → ExpectWithin (ns .wires) (storesOf ns) x → LiteralsWithin (ns .wires) (storesOf ns) c ls 0
+  unfolding storeTests
+  literal-next more-literals g = g
+  literal-next first-literal g = (g, tt, omega arith)
 
-  end : (ms : List Exp) (k : Token) → Each (ExpWithin (ns .wires) (storesOf ns)) ms → P (Reading.atEnd ns ms t k)
-  unfolding P
-  end ms (token.name s) g = elsewhere
-  end ms (token.word w) g = elsewhere
-  end ms (token.number n) g = elsewhere
-  end ms (token.sign n) g = elsewhere
-  end ms token.end g = record { wires = names .wires; monitors = g; stores = names .stores; values = names .values }
-  end ms (token.refused n) g = elsewhere
+  behind-literals : {x : Expect} {c : Context} {ls : List Literal} → BehindLiterals x c ls → ExpectWithin (ns .wires) (storesOf ns) x → LiteralsWithin (ns .wires) (storesOf ns) c ls 0
+  unfolding storeTests
+  behind-literals literals g = g
+  behind-literals (one-wire {c} {ls} {lo} {v} e) (g, h, b) = literal-behind c ls (wire lo 1 v) g (b, omega arith)
 
-  broken : (p : ℕ) → P (fault oversize p)
-  unfolding P
-  broken p = tt
+  behind-operand : {x : Expect} {o : Open} {e : Exp} {b : Bool} → BehindOperand x o e b → ExpectWithin (ns .wires) (storesOf ns) x → OpenWithin (ns .wires) (storesOf ns) o × ExpWithin (ns .wires) (storesOf ns) e
+  behind-operand operands g = g
+  behind-operand (letters {o} {ls} d) g = let h = behind-literals d g in (h .0, unwritten o ls h)
 
-  -- a literal that compares a wire with a number that fits it
-  number-fits : (lo w v : ℕ) → lo + w ≤ ns .wires → leb (2 ^ w) v ≡ false → Within (ns .wires) (storesOf ns) (wire lo w v)
-  number-fits lo w v k e = (leb-false (2 ^ w) v e, k)
+  write-next : {x : Expect} {o : Open} {ls : List Literal} {ws : List Write} → WriteNext x o ls ws → ExpectWithin (ns .wires) (storesOf ns) x → OpenWithin (ns .wires) (storesOf ns) o × LetterWithin (ns .wires) (storesOf ns) ls ws
+  write-next first-write g = g
+  write-next more-writes g = g
 
-  within-step : (x : Expect) → ExpectWithin (ns .wires) (storesOf ns) x → P (step ns x t)
-  unfolding step storeTests
-  within-step statement g = begin (t .token)
-  within-step (sign k x) g = here _ x g
-  within-step (nought x) g = of-number P t own _ (λ n. here _ x g)
-  within-step (closing d) g = either _ _ _ (stands d g) elsewhere
-  within-step inputName g = new _ _ _ (λ e f s. to _ (omega (arith, leb-false 64 (ns .wires) e)))
-  within-step (inputMore s) g = either _ _ _ (stands (newInput s 1) g) (here _ (inputHigh s) tt)
-  within-step (inputHigh s) g = of-number P t own _ (λ h. right _ oversize _ (λ e. to _ (omega (arith, ltb-false 64 (ns .wires + suc h) (second (ltb 63 h) (ltb 64 (ns .wires + suc h)) e)))))
-  within-step storeName g = new _ _ _ (λ e f s. to _ (leb-false 16 (storesOf ns) f))
-  within-step (storeMore s) g = either _ _ _ (to _ (g, omega arith)) (here _ (storeHigh s) g)
-  within-step (storeHigh s) g = of-number P t own _ (λ h. right _ oversize _ (λ e. to _ (g, omega (arith, ltb-false 63 h e))))
-  within-step (storeFirst s w) (g, l) = of-number P t own _ (λ v. right _ oversize _ (λ e. to _ (g, l, fits-word w v l e)))
-  within-step defineName g = new _ _ _ (λ e f s. to _ (tt, tt, tt))
-  within-step (operand o) g =
-      either _ _ _ (right _ crowded _ (λ e. to _ ((tt, tt, tt), (g .0, g .1))))
-      (either _ _ _ (to _ (g, tt, omega arith)) (name-of-literal (inLetter o) [] _ (g, tt, omega arith) (λ e k. to _ (g, k))))
-  within-step (literal c ls) g = either _ _ _ (to _ g) (name-of-literal c ls _ g (λ e k. own _))
-  within-step (negated c ls) g = with-known _ _ _ _ (λ lo w k. to _ (g, k, omega arith)) (λ n w b l. own _) (λ d k. own _) (λ d k. own _)
-  within-step (wireMore c ls lo w v p) (g, k, b) =
-      either _ _ _ (to _ (g, k, b))
-      (either _ _ _ (here _ _ (g, k))
-      (of-choose P (eqb w 1) _ _ (λ e. literally c _ (literal-behind c ls (wire lo 1 v) g (b, omega (arith, eqb-true w 1 e)))) (λ e. broken p)))
-  within-step (bitIndex c ls lo w v) (g, k, b) =
-      of-number P t own _ (λ i. right _ oversize _ (λ e. to _ (literal-behind c ls (wire (lo + i) 1 v) g (b, omega (arith, leb-false w i e)))))
-  within-step (wireEquals c ls lo w) (g, k) =
-      of-if-number P (t .token) _ _ (λ v. right _ oversize _ (λ e. to _ (literal-behind c ls (wire lo w v) g (number-fits lo w v k e))))
-      (with-known _ _ _ _ (λ a b e. own _)
-      (λ n a b l. right _ oversize _ (λ e. right _ crowded _ (λ f. to _ (literal-behind c ls (wire-store lo w n) (g .0, g .1, few-if c ls 1 f) (k, b)))))
-      (λ d e. own _) (λ d e. own _))
-  within-step (storeEquals c ls s w) (g, b, l) = of-number P t own _ (λ v. right _ oversize _ (λ e. to _ (literal-behind c ls (store s v) g (b, fits-word w v l e))))
-  within-step (literalMore c ls) g = literally c ls g
-  within-step (writeStore o ls ws) (g, h) = write o ls ws g h
-  within-step (writeValue o ls ws s w) (g, h, few, b, l) =
-      of-if-number P (t .token) _ _ (λ v. right _ oversize _ (λ e. to _ (g, write-behind ls ws (from-number s v) h few (b, fits-word w v l e))))
-      (with-known _ _ _ _ (λ lo v e. right _ oversize _ (λ f. to _ (g, write-behind ls ws (from-wire s lo v) h few (b, e)))) (λ n a b l. own _) (λ d e. own _) (λ d e. own _))
-  within-step (writeMore o ls ws) (g, h) = either _ _ _ (to _ (g, h)) (write o ls ws g h)
-  within-step (operandMore o e b) (g, h) = operandly o e b g h
-  within-step (monitorName ms) g =
-      with-known _ _ _ _ (λ a b e. own _) (λ n a b l. own _) (λ d e. own _) (λ e k. right _ crowded _ (λ f. to _ (each-more (ExpWithin (ns .wires) (storesOf ns)) ms e g k)))
-  within-step (monitorMore ms) g = either _ _ _ (to _ g) (here _ (textEnd ms) g)
-  within-step (textEnd ms) g = end ms (t .token) g
+  by-sign-within : {k : ℕ} {x y : Expect} {ms : Names} → BySign ns k x ms y → ExpectWithin (ns .wires) (storesOf ns) x → Kept ms y
+  by-sign-within expected g = (names, g)
+  by-sign-within (closed {d}) g = stands d g
+  by-sign-within (narrow-input {s}) g = stands (newInput s 1) g
+  by-sign-within wide-input g = (names, tt)
+  by-sign-within narrow-store g = (names, (g, omega arith))
+  by-sign-within wide-store g = (names, g)
+  by-sign-within (opened few) g = (names, ((tt, tt, tt), g))
+  by-sign-within (negation d) g = (names, literal-next d g)
+  by-sign-within index g = (names, g)
+  by-sign-within (compared e) (g, h, b) = (names, (g, h))
+  by-sign-within (joined d) g = (names, behind-literals d g)
+  by-sign-within (defined {s} {ls} d) g = stands (newDefine s ls) (behind-literals d g .1)
+  by-sign-within (writing {o} {ls} d) g = let h = behind-literals d g in (names, (h .0, unwritten o ls h))
+  by-sign-within written g = (names, g)
+  by-sign-within (starred d e) g = (names, behind-operand d g)
+  by-sign-within (piped d e) g = let ((h, hs), x) = behind-operand d g in (names, ((h .0, h .1, x), hs))
+  by-sign-within (followed {o} {e} d) g = let ((h, hs), x) = behind-operand d g in (names, ((h .0, sequenced-within (ns .wires) (storesOf ns) (o .level) e h x, tt), hs))
+  by-sign-within (or-else {o} {e} d) g = let ((h, hs), x) = behind-operand d g in (names, ((whole-within (ns .wires) (storesOf ns) (o .level) e h x, tt, tt), hs))
+  by-sign-within (level-closed {o} {e} d p) g =
+      let ((h, hs), x) = behind-operand d g in (names, (subst (Each (LevelWithin (ns .wires) (storesOf ns))) p hs, whole-within (ns .wires) (storesOf ns) (o .level) e h x))
+  by-sign-within (produced {o} {e} d p) g =
+      let ((h, hs), x) = behind-operand d g in stands (newProduction (o .name) (whole (o .level) e)) (whole-within (ns .wires) (storesOf ns) (o .level) e h x)
+  by-sign-within more-monitors g = (names, g)
+  by-sign-within all-monitors g = (names, g)
+
+  by-number-within : {v : ℕ} {x y : Expect} → ByNumber ns v x y → ExpectWithin (ns .wires) (storesOf ns) x → ExpectWithin (ns .wires) (storesOf ns) y
+  unfolding storeTests
+  by-number-within zero-read g = g
+  by-number-within (input-width h f) g = f
+  by-number-within (store-width h) g = (g, omega arith)
+  by-number-within (first-value h) (g, l) = (g, l, fits-word l h)
+  by-number-within (bit-index {c} {ls} {i} {lo} {v} h) (g, k, b) = literal-behind c ls (wire (lo + i) 1 v) g (b, omega arith)
+  by-number-within (wire-value {c} {ls} {lo} {w} {v} h) (g, k) = literal-behind c ls (wire lo w v) g (h, k)
+  by-number-within (store-value {c} {ls} {n} {v} h) (g, b, l) = literal-behind c ls (store n v) g (b, fits-word l h)
+  by-number-within (number-written {ls} {ws} {n} {v} h) (o, g, few, b, l) = (o, write-behind ls ws (from-number n v) g few (b, fits-word l h))
+
+  module _ (s : List ℕ) where
+    -- what a name stands for lies within
+    stands-within : (m : Meaning) → Stands ns s m → MeaningWithin (ns .wires) (storesOf ns) m
+    stands-within m e = found (ns .wires) (storesOf ns) s (ns .declared) m (names .names) e
+
+    by-name-within : {place : ℕ} {x y : Expect} → ByName ns place s x y → ExpectWithin (ns .wires) (storesOf ns) x → ExpectWithin (ns .wires) (storesOf ns) y
+    unfolding storeTests
+    by-name-within (new-input f h) g = omega arith
+    by-name-within (new-store f h) g = h
+    by-name-within (new-define f) g = (tt, tt, tt)
+    by-name-within (new-production f) g = ((tt, tt, tt), tt)
+    by-name-within (of-wire {lo} {w} d e) g = (literal-next d g, stands-within (anInput lo w) e, omega arith)
+    by-name-within (of-store {c} {ls} {n} {w} d e f) g =
+        let (h, l, few) = literal-next d g in let (i, j) = stands-within (aStore n w) e in ((h, l, few-if c ls 1 f), i, j)
+    by-name-within (of-define {c} {ls} {ds} d e f) g =
+        let (h, l, few) = literal-next d g in literals-append (ns .wires) (storesOf ns) c ls ds (h, l, few-if c ls (storeTests ds) f) (stands-within (aDefine ds) e)
+    by-name-within (of-production {e} h) g = (g, stands-within (aProduction e) h)
+    by-name-within (of-negated {lo} {w} e) g = (g, stands-within (anInput lo w) e, omega arith)
+    by-name-within (equal-store {c} {ls} {lo} {w} {n} e f) ((g, l, few), k) =
+        literal-behind c ls (wire-store lo w n) (g, l, few-if c ls 1 f) (k, stands-within (aStore n w) e .0)
+    by-name-within (store-written {n} {w} d e h) g = let (o, l) = write-next d g in let (i, j) = stands-within (aStore n w) e in (o, l, h, i, j)
+    by-name-within (wire-written {ls} {ws} {n} {lo} {m} e h) (o, g, few, b, l) =
+        (o, write-behind ls ws (from-wire n lo m) g few (b, stands-within (anInput lo m) e))
+    by-name-within (monitored {ms} {e} h f) g = each-more (ExpWithin (ns .wires) (storesOf ns)) ms e g (stands-within (aProduction e) h)
+
+within-word : (n k : ℕ) (w : token.Word) → ExpectWithin n k (behindWord w)
+within-word n k token.input = tt
+within-word n k token.internal = tt
+within-word n k token.define = tt
+within-word n k token.monitor = tt
+
+next-within : {ns : Names} {place : ℕ} {u : Token} {x y : Expect} {ms : Names} → Next ns place u x ms y → Kept ns x → Kept ms y
+next-within (by-sign n) (names, g) = by-sign-within _ names n g
+next-within (by-number n) (names, g) = (names, by-number-within _ names n g)
+next-within (by-name {s} n) (names, g) = (names, by-name-within _ names s n g)
+next-within (by-word {w}) (names, g) = (names, within-word _ _ w)
 
 -- ---- the whole text
 
-reads-within : (ts : List Placed) (ns : Names) (x : Expect) (p : Program) → NamesWithin ns → ExpectWithin (ns .wires) (storesOf ns) x → readOn ns x ts ≡ value p
-    → ProgramWithin p
-unfolding readOn P
-reads-within [] ns x p g h e = clash (cc)
-reads-within (t ∷ ts) ns x p g h e = by-step (step ns x t) (within-step ns g t x h) e (λ ms y k l f. reads-within ts ms y p k l f)
-  where
-    by-step : (s : Step) → StepWithin s → Reading.andThen s (λ ms y. readOn ms y ts) ≡ value p
-        → ((ms : Names) (y : Expect) → NamesWithin ms → ExpectWithin (ms .wires) (storesOf ms) y → readOn ms y ts ≡ value p → ProgramWithin p)
-        → ProgramWithin p
-    by-step (go ms y) (k, l) f ih = ih ms y k l f
-    by-step (finished q) k f ih = let r : q ≡ p = cc in subst (λ z. ProgramWithin z) r k
-    by-step (fault number place) k f ih = clash (cc)
-
 -- A program that reading gives lies within its wires and its stores.
 pub read-within : (text : List ℕ) (p : Program) → read text ≡ value p → ProgramWithin p
-unfolding read
-read-within text p e = go-on (ltb 16384 (length text)) e
-  where
-    go-on : (t : Bool) → cond t (refused overlong (byte 0)) (readOn noNames statement (tokens text)) ≡ value p → ProgramWithin p
-    go-on true f = clash (cc)
-    go-on false f = reads-within (tokens text) noNames statement p (record { wires = omega arith; names = tt; stores = omega arith; values = tt }) tt f
+read-within text p e =
+    kept Kept ProgramWithin (λ ns ms place u x y n k. next-within n k) (λ ns ms (names, g). record { wires = names .wires; monitors = g; stores = names .stores; values = names .values })
+    text p (record { wires = omega arith; names = tt; stores = omega arith; values = tt }, tt) e

@@ -20,22 +20,54 @@ stuck t = none
 abbrev pub over : Way
 over t = some []
 
-abbrev pub orElse : Option (List ℕ) → Option (List ℕ) → Option (List ℕ)
-orElse none b = b
-orElse (some ns) b = some ns
-
 abbrev pub joined : Option (List ℕ) → Option (List ℕ) → Option (List ℕ)
 joined none b = none
 joined (some ns) none = none
 joined (some ns) (some ms) = some (ns ++ ms)
 
--- e is asked, and K where it is left at once
-unfoldable pub ask : Exp → Way → Way
-ask (letter l) K t = cond (meets l t) (some (l .number ∷ [])) none
-ask (seq e f) K t = ask e (ask f K) t
-ask (alt e f) K t = orElse (ask e K t) (ask f K t)
-ask (star e) K t = orElse (K t) (ask e stuck t)
-ask (pipe e f) K t = ask e (λ u. joined (K u) (ask f over u)) t
+-- What entering a part at a tick comes to: a letter that can come first in it is met; or none is, and the part can be left at once, since it can fit no ticks; or it cannot.
+pub data Entered : Type 0 where
+  met : ℕ → Entered
+  passed : Entered
+  blocked : Entered
+
+-- of `e , f`: f is entered where e can be left at once
+abbrev pub thenEnter : Entered → Entered → Entered
+thenEnter (met n) b = met n
+thenEnter passed b = b
+thenEnter blocked b = blocked
+
+-- of `e || f`
+abbrev pub orEnter : Entered → Entered → Entered
+orEnter (met n) b = met n
+orEnter passed (met n) = met n
+orEnter passed passed = passed
+orEnter passed blocked = passed
+orEnter blocked b = b
+
+-- of `e*`, which can be left at once
+abbrev pub orPass : Entered → Entered
+orPass (met n) = met n
+orPass passed = passed
+orPass blocked = passed
+
+-- of `e @ f` e alone is entered
+unfoldable pub enter : Exp → Tick → Entered
+enter (letter l) t = cond (meets l t) (met (l .number)) blocked
+enter (seq e f) t = thenEnter (enter e t) (enter f t)
+enter (alt e f) t = orEnter (enter e t) (enter f t)
+enter (star e) t = orPass (enter e t)
+enter (pipe e f) t = enter e t
+
+-- entered, or else left, where that goes on as o says
+abbrev pub goesBy : Entered → (o : Option (List ℕ)) → Option (List ℕ)
+goesBy (met n) o = some (n ∷ [])
+goesBy passed o = o
+goesBy blocked o = none
+
+-- e is asked: it is entered, and K follows where it is left at once
+abbrev pub ask : Exp → Way → Way
+ask e K t = goesBy (enter e t) (K t)
 
 -- letter n stands in e
 abbrev pub has : ℕ → Exp → Bool

@@ -332,11 +332,15 @@ writtenStore ns o ls ws t =
 abbrev pub toZero : Expect → Expect
 toZero x = sign colon (nought (sign rightBracket x))
 
+-- what is expected behind a word that begins a statement
+abbrev pub behindWord : token.Word → Expect
+behindWord token.input = inputName
+behindWord token.internal = storeName
+behindWord token.define = defineName
+behindWord token.monitor = monitorName []
+
 abbrev pub ofWord : Names → token.Word → Step
-ofWord ns token.input = go ns inputName
-ofWord ns token.internal = go ns storeName
-ofWord ns token.define = go ns defineName
-ofWord ns token.monitor = go ns (monitorName [])
+ofWord ns w = go ns (behindWord w)
 
 -- the name of a production begins its statement
 abbrev pub ofProduction : Names → Placed → Step
@@ -350,12 +354,15 @@ begin ns t (token.sign n) = notHere t
 begin ns t token.end = notHere t
 begin ns t (token.refused n) = notHere t
 
+abbrev pub programOf : Names → List Exp → Program
+programOf ns ms = record { wires = ns .wires; initial = ns .initial; monitors = ms }
+
 abbrev pub atEnd : Names → List Exp → Placed → Token → Step
 atEnd ns ms t (token.name s) = notHere t
 atEnd ns ms t (token.word w) = notHere t
 atEnd ns ms t (token.number n) = notHere t
 atEnd ns ms t (token.sign n) = notHere t
-atEnd ns ms t token.end = finished (record { wires = ns .wires; initial = ns .initial; monitors = ms })
+atEnd ns ms t token.end = finished (programOf ns ms)
 atEnd ns ms t (token.refused n) = notHere t
 
 unfoldable pub step : Names → Expect → Placed → Step

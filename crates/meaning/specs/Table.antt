@@ -8,7 +8,7 @@ use lib.Dec.{eqb}
 use lib.ListN.{getD}
 use Rattle.meaning.specs.Expression.{Letter, Exp, letter, seq, alt, star, pipe, rows}
 use Rattle.meaning.specs.Fit.{Tick, meets}
-use Rattle.meaning.specs.Positions.{Way, orElse, joined}
+use Rattle.meaning.specs.Positions.{Way, joined, Entered, met, blocked, thenEnter, orEnter, orPass, goesBy}
 
 pub data Kind : Type 0 where
   is-letter : Letter → Kind
@@ -86,13 +86,13 @@ HoldsAll R r (m ∷ ms) = Holds R (letterRow r m) r m × (R r .up ≡ r) × Hold
 
 -- ---- the walk ----
 
--- a row is asked; a, b, c: asking its left operand, asking its right one, leaving the row itself
-abbrev pub askBy : Kind → Tick → (a b c : Option (List ℕ)) → Option (List ℕ)
-askBy (is-letter l) t a b c = cond (meets l t) (some (l .number ∷ [])) none
-askBy is-seq t a b c = a
-askBy is-alt t a b c = orElse a b
-askBy is-star t a b c = orElse c a
-askBy is-pipe t a b c = a
+-- a row is entered; a, b: entering its left operand, entering its right one
+abbrev pub enterBy : Kind → Tick → (a b : Entered) → Entered
+enterBy (is-letter l) t a b = cond (meets l t) (met (l .number)) blocked
+enterBy is-seq t a b = thenEnter a b
+enterBy is-alt t a b = orEnter a b
+enterBy is-star t a b = orPass a
+enterBy is-pipe t a b = a
 
 -- an operand of a row is left (on-left: the left one); b, c, d: asking the row's right operand, leaving the row, asking the row
 abbrev pub leaveBy : Kind → (on-left : Bool) → (b c d : Option (List ℕ)) → Option (List ℕ)
@@ -102,11 +102,16 @@ leaveBy is-alt on-left b c d = c
 leaveBy is-star on-left b c d = d
 leaveBy is-pipe on-left b c d = cond on-left (joined c b) (some [])
 
--- n bounds the calls; a monitor's own row is asked again when it is left
+-- n bounds the calls
+unfoldable pub enterRow : ℕ → Table → ℕ → Tick → Entered
+enterRow zero R r t = blocked
+enterRow (suc n) R r t = enterBy (R r .kind) t (enterRow n R (R r .left) t) (enterRow n R (R r .right) t)
+
+-- a row is asked: it is entered, or else left where it can be left at once; a monitor's own row is asked again when it is left
 unfoldable mutual
   pub askRow : ℕ → Table → ℕ → Way
   askRow zero R r t = none
-  askRow (suc n) R r t = askBy (R r .kind) t (askRow n R (R r .left) t) (askRow n R (R r .right) t) (leaveRow n R r t)
+  askRow (suc n) R r t = goesBy (enterRow n R r t) (leaveRow n R r t)
 
   pub leaveRow : ℕ → Table → ℕ → Way
   leaveRow zero R r t = none

@@ -1,6 +1,5 @@
 -- Every list of tick calls on the watch of an accepted text gets the replies that the text's meaning fixes. Assumes nothing.
 use mathlib.Core.Path.{_≡_, refl, sym, ap, _∙_, subst, subst₂}
-use mathlib.Core.Bool.{true}
 use mathlib.Core.Option.{Option, none}
 use mathlib.Core.Logic.{⊎-elim}
 use mathlib.Core.List.{List, [], _∷_, map}
@@ -36,13 +35,13 @@ use Rattle.monitor.proofs.Padded.{padded}
 use Rattle.monitor.proofs.Readable.{Readable, accepted-readable}
 use Rattle.monitor.proofs.LetterTests.{LetterGiven, letter-met, letter-writes}
 use Rattle.monitor.proofs.Coded.{Coded}
-use Rattle.monitor.proofs.Memory.{Memory, waysOf, memory-empty}
+use Rattle.monitor.proofs.Memory.{Memory, rowsOf, memory-empty}
 use Rattle.monitor.proofs.MemoryLaws.{asks-right, leaves-right}
 use Rattle.monitor.proofs.Monitors.{Standing, AllStanding, all-go}
 use Rattle.monitor.proofs.Moves.{AllWriteAs, MarksAll}
 use Rattle.monitor.proofs.Watching.{Steps, steps-right}
 use Rattle.monitor.proofs.Replies.{Like, machine-replies}
-use Rattle.monitor.proofs.Starts.{answers-go, starts}
+use Rattle.monitor.proofs.Starts.{starts}
 use Rattle.monitor.proofs.Numbered.{programOf}
 use Rattle.monitor.proofs.LetterRows.{HeldAll}
 use Rattle.monitor.proofs.Program
@@ -195,18 +194,18 @@ module _ (text : List ℕ) (o : Opened) (e : openText text ≡ value o) where
     coded = Program.program-coded o c g (at w σ) refl (λ m i x j. right .tests m i x j σ long w)
 
     abbrev Good : List ℕ → Type 0
-    Good = Memory (waysOf steps (Program.tableOf o) (at w σ)) (o .rowCount)
+    Good = Memory (rowsOf steps (Program.tableOf o) (at w σ)) (o .rowCount)
 
     step-from : (K : List ℕ) (xs : List machine.Positions) → MarksAll K 0 0 (o .monitors) xs
         → Steps (o .monitors) (at w σ) σ padded (length (o .initial)) (machine.goEach 0 (o .monitors) xs (at w σ)) (stepWithin g (layoutOf v) K)
     unfolding v programOf
     step-from K xs h =
-        steps-right Good (λ M p. p .long) (λ M p. p .bits) (memory-empty (waysOf steps (Program.tableOf o) (at w σ)) (o .rowCount)) g (at w σ) (layoutOf v) K (o .monitors) ordered
+        steps-right Good (λ M p. p .long) (λ M p. p .bits) (memory-empty (rowsOf steps (Program.tableOf o) (at w σ)) (o .rowCount)) g (at w σ) (layoutOf v) K (o .monitors) ordered
         (Program.monitors-counted o c) (c .few-monitors) (Program.letters-counted o c ∙ sym (c .letters-are)) (let a = c .few-letters in let b = c .letters-are in omega (arith, a, b))
         xs σ padded (length (o .initial)) h long refl
         (all-go Good g (at w σ) (Program.tableOf o) (o .rowCount) (layoutOf v) K
-        (λ r l e M p. answers-go _ (o .rowCount) _ M _ (asks-right (Program.tableOf o) g (at w σ) (o .rowCount) coded steps steps r l e (omega arith) true M p))
-        (λ r l e M p. answers-go _ (o .rowCount) _ M _ (leaves-right (Program.tableOf o) g (at w σ) (o .rowCount) coded steps steps r l e (omega arith) true M p))
+        (λ r l e. asks-right (Program.tableOf o) g (at w σ) (o .rowCount) coded steps steps r l e (omega arith))
+        (λ r l e. leaves-right (Program.tableOf o) g (at w σ) (o .rowCount) coded steps steps r l e (omega arith))
         0 0 0 (o .monitors) xs stands solid h)
         (λ Q. all-write g (at w σ) Q padded (length (o .initial)) 0 (o .monitors) ordered (λ m i x j ρ d. right .writes m i x j σ long ρ d w))
 

@@ -5,7 +5,7 @@ use Prim.Native.Nat.{ℕ, _<_, _≤_}
 use lib.ListN.{getD}
 use Rattle.meaning.specs.Fit.{Tick, meets}
 use Rattle.meaning.specs.Table.{Kind, is-letter, is-seq, is-alt, is-star, is-pipe, Table}
-use Rattle.rules.specs.Words.{part0, part1, part2, part3}
+use Rattle.words.specs.Words.{part0, part1, part2, part3}
 use Rattle.monitor.specs.Letters.{Given, letterMet}
 
 -- a row's word x, of n rows: its kind and its operands; of a letter its number and its test

@@ -8,13 +8,16 @@ use lib.Dec.{eqb}
 use lib.ListN.{length, length-append, length-map}
 use Rattle.meaning.specs.Lists.{total}
 use Rattle.meaning.specs.Expression.{Exp, letter, seq, alt, star, pipe, size, rows}
-use Rattle.meaning.specs.Table.{Row, Table, Holds, laid, letterRows, laidAll}
+use Rattle.meaning.specs.Table.{Kind, is-letter, is-seq, is-alt, is-star, is-pipe, Row, Table, Holds, laid, letterRows, laidAll}
 use Rattle.meaning.proofs.Rows.{Stands, laid-length, letters-length, laid-holds}
 use Rattle.meaning.proofs.Within.{Each}
-use Rattle.rules.specs.Laying.{kindCode}
+use Rattle.words.specs.Words.{part0}
+use Rattle.words.proofs.Quads.{quad-0}
+use Rattle.rules.specs.Laying.{kindCode, leftCode}
 use Rattle.rules.specs.Watches.{lettersFrom}
 use Rattle.monitor.proofs.Stored.{front, rear, each-append}
 use Rattle.monitor.proofs.Numbered.{InOrder}
+use Rattle.monitor.proofs.RowWords.{wordOf}
 
 -- ---- each letter's row
 
@@ -25,6 +28,18 @@ rowsOfLetters r (m ∷ ms) = letterRows r m ++ rowsOfLetters (r + rows m) ms
 
 abbrev pub kinds : List Row → List ℕ
 kinds xs = map (λ x. kindCode (x .kind)) xs
+
+kind-small : (k : Kind) → kindCode k < 65536
+kind-small (is-letter l) = omega arith
+kind-small is-seq = omega arith
+kind-small is-alt = omega arith
+kind-small is-star = omega arith
+kind-small is-pipe = omega arith
+
+-- they stand in the rows' words
+pub kinds-kept : (xs : List Row) → map part0 (map wordOf xs) ≡ kinds xs
+kinds-kept [] = refl
+kinds-kept (x ∷ xs) = ap₂ _∷_ (quad-0 (kindCode (x .kind)) (leftCode 0 (x .left) (x .kind)) (x .right) (x .up) (kind-small (x .kind))) (kinds-kept xs)
 
 letters-append : (r n : ℕ) (xs ys : List ℕ) → n ≡ r + length xs → lettersFrom r (xs ++ ys) ≡ lettersFrom r xs ++ lettersFrom n ys
 unfolding lettersFrom

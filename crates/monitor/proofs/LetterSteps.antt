@@ -8,7 +8,7 @@ use lib.Dec.{eqb}
 use lib.Bits.{bitAnd}
 use lib.ListN.{getD, set}
 use Rattle.meaning.specs.Masks.{passes}
-use Rattle.rules.specs.Words.{part0, part1, part2}
+use Rattle.words.specs.Words.{part0, part1, part2}
 use Rattle.monitor.specs.Letters.{Given, given, linkValue, testMet, letterMet, writeSlot, writeLetter}
 
 -- ---- choices

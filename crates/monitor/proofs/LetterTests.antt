@@ -18,10 +18,10 @@ use Rattle.meaning.specs.Masks.{look, want, passes}
 use Rattle.meaning.specs.Fit.{Tick, valueOf, holds, meets, write}
 use Rattle.meaning.proofs.Masks.{meets-passes, passes-meets}
 use Rattle.meaning.proofs.Within.{Each, Within, WriteWithin}
-use Rattle.rules.specs.Words.{quad, part0}
+use Rattle.words.specs.Words.{quad, part0}
 use Rattle.rules.specs.Cells.{Link, link, testsOn, writeLink, writesOn}
 use Rattle.rules.specs.Laying.{ones, slotWord, slotNumber, twoSlots, slotsOf}
-use Rattle.rules.proofs.Numbers.{quad-1, quad-2}
+use Rattle.words.proofs.Quads.{quad-1, quad-2}
 use Rattle.rules.proofs.Tested.{tests-length}
 use Rattle.monitor.specs.Letters.{Given, linkValue, testMet, letterMet, writeSlot, writeLetter}
 use Rattle.monitor.proofs.Padded.{padded, padded-get, padded-set}
@@ -65,14 +65,13 @@ module _ (k : ℕ) (few : k ≤ 16) (x : Link) (fits : LinkFits k x) where
       by : (t : Bool) → eqb (x .width) 0 ≡ t
           → linkValue (cond t (quad (x .store) 2 0 0) (quad (x .store) 1 (x .lo) 0)) (cond t (x .number) (ones (x .width))) w
           ≡ cond t (x .number) (field (x .lo) (x .width) w)
-      by true e = rw (quad-1 (x .store) 2 0 0 (omega (arith, fits .0)) (omega arith) (omega arith) (omega arith))
+      by true e = rw (quad-1 (x .store) 2 0 0 (omega arith))
       by false e =
           let n = eqb-false (x .width) 0 e in
           let l : x .lo < 64 = omega (arith, fits .1, n) in
           let a : x .lo % 64 ≡ x .lo = omega arith in
           let b : min (x .width) 64 ≡ x .width = omega (arith, fits .1) in
-          let s : x .store < 65536 = omega (arith, fits .0) in
-          rw (quad-1 (x .store) 1 (x .lo) 0 s (omega arith) (omega arith) (omega arith), quad-2 (x .store) 1 (x .lo) 0 s (omega arith) (omega arith) (omega arith), a, b)
+          rw (quad-1 (x .store) 1 (x .lo) 0 (omega arith), quad-2 (x .store) 1 (x .lo) 0 (omega arith), a, b)
           (and-mask (w / 2 ^ x .lo) (x .width))
 
 -- a field of no wires is 0

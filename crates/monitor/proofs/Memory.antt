@@ -1,40 +1,57 @@
--- What a walk may remember for one tick, and when an answer with its memory is right. Assumes nothing.
+-- What a walk may remember for one tick, and when what it comes to, with its memory, is right. Assumes nothing.
 use mathlib.Core.Bool.{Bool, true, false}
-use mathlib.Core.List.{List}
+use mathlib.Core.List.{List, [], _∷_, _++_}
 use mathlib.Core.Option.{Option, none, some}
-use mathlib.Core.Path.{_≡_}
-use mathlib.Core.Logic.{_⊎_}
-use Prim.Native.Nat.{ℕ, zero, _+_, _<_, _≤_}
+use mathlib.Core.Path.{_≡_, refl}
+use mathlib.Core.Logic.{_⊎_, inl, inr, ⊎-elim}
+use Prim.Native.Nat.{ℕ, _+_, _<_, _≤_}
 use native.Mathlib.Omega.{arith}
-use native.Mathlib.Decide.{decLt}
 use lib.Dec.{T}
-use lib.ListN.{length, getD, List·getD-eq-default, replicate, length-replicate}
+use lib.ListN.{length, getD, length-replicate}
 use Rattle.meaning.specs.Lists.{_∈_}
 use Rattle.meaning.specs.Fit.{Tick}
-use Rattle.meaning.specs.Table.{Table, askRow, leaveRow}
-use Rattle.monitor.specs.Walk.{Told}
+use Rattle.meaning.specs.Positions.{joined, Entered, met, passed, blocked}
+use Rattle.meaning.specs.Table.{Table, enterRow, leaveRow}
+use Rattle.meaning.proofs.ListLaws.{no-∈, append-∈, ∈-left, ∈-right}
+use Rattle.monitor.specs.Walk.{Came, Told, told, andThen, answerCode}
+use Rattle.monitor.specs.Ticks.{emptyMemory}
 use Rattle.monitor.proofs.Padded.{zeros-at}
 
--- ---- ways
-
--- what asking (true) and what leaving (false) each row answers
-abbrev pub Ways : Type 0
-Ways = (asked : Bool) → ℕ → Option (List ℕ)
-
--- those of the rows of R at tick t, N calls deep
-abbrev pub waysOf : (N : ℕ) → Table → Tick → Ways
-waysOf N R t true r = askRow N R r t
-waysOf N R t false r = leaveRow N R r t
+-- ---- what may be kept
 
 -- there is a way
 abbrev pub found : Option (List ℕ) → Bool
 found none = false
 found (some ns) = true
 
--- letter l is one of the way's
-abbrev pub OnWay : ℕ → Option (List ℕ) → Type 0
-OnWay l none = ⊥
-OnWay l (some ns) = l ∈ ns
+-- the letters of the way
+abbrev pub lettersOf : Option (List ℕ) → List ℕ
+lettersOf none = []
+lettersOf (some ns) = ns
+
+-- what is known of a row: the number that it is kept as, and the letters that are marked where it is kept
+pub record Known : Type 0 where
+  pub code : ℕ
+  pub letters : List ℕ
+
+-- from entering the row
+abbrev pub entered : Entered → Known
+entered (met l) = record { code = 3; letters = l ∷ [] }
+entered passed = record { code = 2; letters = [] }
+entered blocked = record { code = 1; letters = [] }
+
+-- from leaving it
+abbrev pub answered : Option (List ℕ) → Known
+answered a = record { code = answerCode (found a); letters = lettersOf a }
+
+-- of each row, from entering it (true) and from leaving it (false)
+abbrev pub Rows : Type 0
+Rows = (entering : Bool) → ℕ → Known
+
+-- those of R at tick t, N calls deep
+abbrev pub rowsOf : (N : ℕ) → Table → Tick → Rows
+rowsOf N R t true r = entered (enterRow N R r t)
+rowsOf N R t false r = answered (leaveRow N R r t)
 
 -- ---- what is kept
 
@@ -42,58 +59,82 @@ OnWay l (some ns) = l ∈ ns
 abbrev pub Marked : List ℕ → ℕ → Type 0
 Marked M l = getD M (2048 + l) 0 ≡ 1
 
--- the answer a may be kept as the number k
-pub record Right (a : Option (List ℕ)) (k : ℕ) (M : List ℕ) : Type 0 where
-  pub no-way : k ≡ 1 → a ≡ none
-  pub way : k ≡ 2 → found a ≡ true
-  pub way-marked : k ≡ 3 → (found a ≡ true) × ((l : ℕ) → OnWay l a → Marked M l)
-  pub few : k ≤ 3
+-- a is kept as the number k, and its letters are marked
+pub record Kept (a : Known) (k : ℕ) (M : List ℕ) : Type 0 where
+  pub same : k ≡ a .code
+  pub marked : (l : ℕ) → l ∈ a .letters → Marked M l
 
--- where what asking a row answered is kept, and what leaving it
-abbrev pub base : (asked : Bool) → ℕ
-base true = 0
-base false = 1024
+-- where what is known from entering a row is kept, and what from leaving it
+abbrev pub place : (entering : Bool) → ℕ → ℕ
+place true r = r
+place false r = 1024 + r
 
 -- what the memory has of the first n rows is right, and a letter is marked (1) or not (0)
-pub record Memory (W : Ways) (n : ℕ) (M : List ℕ) : Type 0 where
+pub record Memory (F : Rows) (n : ℕ) (M : List ℕ) : Type 0 where
   pub long : length M ≡ 2304
-  pub answers : (q : Bool) (r : ℕ) → r < n → Right (W q r) (getD M (base q + r) 0) M
+  pub rows : (q : Bool) (r : ℕ) → r < n → (getD M (place q r) 0 ≡ 0 → ⊥) → Kept (F q r) (getD M (place q r) 0) M
   pub bits : (l : ℕ) → l < 256 → getD M (2048 + l) 0 ≤ 1
 
--- ---- an answer
-
--- from M to N marks are kept, and only letters of S marked
-pub record Marks (S : ℕ → Type 0) (M N : List ℕ) : Type 0 where
-  pub kept : (l : ℕ) → Marked M l → Marked N l
-  pub only : (l : ℕ) → Marked N l → Marked M l ⊎ S l
-
--- The answer x, asked for with the memory M, is a; where it is sure, the letters of the way are marked, and no others. K is what holds of every memory.
-pub record Answers (K : List ℕ → Type 0) (a : Option (List ℕ)) (s : Bool) (M : List ℕ) (x : Told) : Type 0 where
-  pub says : x .yes ≡ found a
-  pub keeps : K (x .memory)
-  pub marks : Marks (λ l. T s × OnWay l a) M (x .memory)
-  pub all : T s → (l : ℕ) → OnWay l a → Marked (x .memory) l
-
--- ---- the empty memory
-
 -- nothing is known, so all of it is right
-pub memory-empty : (W : Ways) (n : ℕ) → Memory W n (replicate 2304 0)
-memory-empty W n = record {
+pub memory-empty : (F : Rows) (n : ℕ) → Memory F n emptyMemory
+memory-empty F n = record {
   long = length-replicate {A = ℕ} 2304 0;
-  answers = λ q r h. rw (zeros-at 2304 (base q + r)) (record { no-way = λ z. absurd (omega arith); way = λ z. absurd (omega arith); way-marked = λ z. absurd (omega arith); few = omega arith });
+  rows = λ q r h k. absurd (k (zeros-at 2304 (place q r)));
   bits = λ l h. rw (zeros-at 2304 (2048 + l)) (omega arith);
 }
 
 -- and nothing is marked
-pub empty-unmarked : (l : ℕ) → Marked (replicate 2304 0) l → ⊥
+pub empty-unmarked : (l : ℕ) → Marked emptyMemory l → ⊥
 empty-unmarked l m = omega (arith, zeros-at 2304 (2048 + l))
 
--- ---- marks
+-- ---- what a walk comes to; Good says which memories are right
 
--- a letter that is marked has its place
-pub marked-small : {W : Ways} {n : ℕ} {M : List ℕ} → Memory W n M → (l : ℕ) → Marked M l → l < 256
-marked-small {M} m l z = go (decLt l 256)
-  where
-    go : Dec (l < 256) → l < 256
-    go (yes h) = h
-    go (no h) = absurd (omega (arith, List·getD-eq-default M 0 {n = 2048 + l} (omega (arith, m .long))))
+module _ (Good : List ℕ → Type 0) where
+  -- the letters marked in M′ are those marked in M, and ns
+  pub record Exactly (M ns M′ : List ℕ) : Type 0 where
+    pub good : Good M′
+    pub grows : (l : ℕ) → Marked M l → Marked M′ l
+    pub adds : (l : ℕ) → l ∈ ns → Marked M′ l
+    pub only : (l : ℕ) → Marked M′ l → Marked M l ⊎ (l ∈ ns)
+
+  -- a row was entered with the memory M, which came to x, and rightly so if it is a
+  pub record Enters (a : Entered) (M : List ℕ) (x : Came) : Type 0 where
+    pub same : x .code ≡ entered a .code
+    pub marks : Exactly M (entered a .letters) (x .memory)
+
+  -- a walk from M answered x, and rightly so if its way is a; where there is none, nothing is said of the memory
+  pub record Goes (a : Option (List ℕ)) (M : List ℕ) (x : Told) : Type 0 where
+    pub yes : x .yes ≡ found a
+    pub marks : T (found a) → Exactly M (lettersOf a) (x .memory)
+
+module _ {Good : List ℕ → Type 0} where
+  -- nothing more is marked
+  pub exactly-same : {M ns : List ℕ} → Good M → ((l : ℕ) → l ∈ ns → Marked M l) → Exactly Good M ns M
+  exactly-same g h = record { good = g; grows = λ l m. m; adds = h; only = λ l m. inl m }
+
+  pub exactly-none : {M : List ℕ} → Good M → Exactly Good M [] M
+  exactly-none g = exactly-same g (λ l i. absurd (no-∈ i))
+
+  pub exactly-then : {M M′ M″ : List ℕ} (ns ks : List ℕ) → Exactly Good M ns M′ → Exactly Good M′ ks M″ → Exactly Good M (ns ++ ks) M″
+  exactly-then ns ks a b = record {
+    good = b .good;
+    grows = λ l m. b .grows l (a .grows l m);
+    adds = λ l i. ⊎-elim (λ j. b .grows l (a .adds l j)) (b .adds l) (append-∈ ns i);
+    only = λ l m. ⊎-elim (λ k. ⊎-elim inl (λ j. inr (∈-left ks j)) (a .only l k)) (λ j. inr (∈-right ns j)) (b .only l m);
+  }
+
+  -- there is no way; there is nothing to go on with
+  pub goes-not : {M : List ℕ} {x : Told} → x .yes ≡ false → Goes Good none M x
+  goes-not e = record { yes = e; marks = λ f. absurd f }
+
+  pub goes-over : {M : List ℕ} → Good M → Goes Good (some []) M (told true M)
+  goes-over g = record { yes = refl; marks = λ f. exactly-none g }
+
+  -- the one, and where it goes on the other
+  pub goes-then : (a b : Option (List ℕ)) {M : List ℕ} {x : Told} (f : List ℕ → Told) → Goes Good a M x → ((N : List ℕ) → Good N → Goes Good b N (f N))
+      → Goes Good (joined a b) M (andThen x f)
+  goes-then none b f p q = rw (p .yes) (goes-not refl)
+  goes-then (some ns) none {x} f p q = rw (p .yes) (goes-not (q (x .memory) (p .marks tt .good) .yes))
+  goes-then (some ns) (some ks) {x} f p q =
+      let z = q (x .memory) (p .marks tt .good) in
+      rw (p .yes) (record { yes = z .yes; marks = λ s. exactly-then ns ks (p .marks tt) (z .marks tt) })

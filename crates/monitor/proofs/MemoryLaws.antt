@@ -1,145 +1,71 @@
--- The walk with a memory is right: each answer is that of the walk without one, and the letters that it marks are those of the way. Assumes nothing.
-use mathlib.Core.Bool.{Bool, true, false, not, cond, _&&_}
-use mathlib.Core.List.{List, [], _∷_, _++_}
-use mathlib.Core.Option.{Option, none, some}
-use mathlib.Core.Path.{_≡_, refl, sym, ap, _∙_, subst}
+-- The walk with a memory is right: what entering a row comes to, and each answer, is that of the walk without one; and the letters that it marks are those of the way, wherever there is one. Assumes nothing.
+use mathlib.Core.Bool.{Bool, true, false, cond}
+use mathlib.Core.List.{List, [], _∷_}
+use mathlib.Core.Option.{Option}
+use mathlib.Core.Path.{_≡_, refl, sym, ap, _∙_}
 use mathlib.Core.Logic.{_⊎_, inl, inr, ⊎-elim}
 use Prim.Native.Nat.{ℕ, zero, suc, _+_, _<_, _≤_}
 use native.Mathlib.Omega.{arith}
 use native.Mathlib.Decide.{ℕ-discrete}
-use lib.Dec.{T, T-not, eqb, eqb→eq, eqb-refl, leb, leb→le}
+use lib.Dec.{T, eqb, eqb→eq, eqb-refl, leb}
+use borrow.Author.Tests.{eqb-true, eqb-false, lt-leb}
 use lib.ListN.{length, getD, set, length-set}
 use lib.Seq.{getD-set-same, getD-set-other}
-use Rattle.meaning.specs.Lists.{_∈_}
 use Rattle.meaning.specs.Fit.{Tick, meets}
-use Rattle.meaning.specs.Positions.{orElse, joined}
-use Rattle.meaning.specs.Table.{Kind, is-letter, is-seq, is-alt, is-star, is-pipe, Table, askBy, leaveBy, askRow, leaveRow}
-use Rattle.meaning.proofs.ListLaws.{here, no-∈, one-∈, or-T, and-T, append-∈, ∈-left, ∈-right}
-use Rattle.meaning.proofs.Monitor.{same-test}
-use Rattle.meaning.proofs.Ends.{asksBy, leavesBy, AskEnds, LeaveEnds, ask-calls, ask-unfolds, leave-calls, leave-unfolds, own-calls, own-unfolds}
-use Rattle.rules.specs.Words.{part3}
+use Rattle.meaning.specs.Positions.{Entered, met, passed, blocked, thenEnter, orEnter, orPass, goesBy}
+use Rattle.meaning.specs.Table.{Kind, is-letter, is-seq, is-alt, is-star, is-pipe, Table, enterBy, leaveBy, enterRow, askRow, leaveRow}
+use Rattle.meaning.proofs.ListLaws.{here, one-∈, same-truth}
+use Rattle.meaning.proofs.Ends.{entersBy, leavesBy, EnterEnds, AskEnds, LeaveEnds, enter-calls, enter-unfolds, ask-unfolds, passes-on, leave-calls, leave-unfolds, own-calls, own-unfolds}
+use Rattle.words.specs.Words.{part3}
 use Rattle.monitor.specs.Letters.{Given}
-use Rattle.monitor.specs.Walk.{Told, told, Call, orThen, andThen, settled, answerCode, remembered, askOn, both, leaveTo, leaveOn, askM, leaveM}
+use Rattle.monitor.specs.Walk.{Came, came, told, Entry, Call, orPassCode, orEnterCode, enterOn, rememberedEntry, enterM, askFrom, leaveTo, leaveOn, answerCode, remembered, askM, leaveM}
 use Rattle.monitor.proofs.Coded.{CodedAs, Coded}
-use Rattle.monitor.proofs.Memory.{Ways, waysOf, found, OnWay, Marked, Right, base, Memory, Marks, Answers}
+use Rattle.monitor.proofs.Memory.{found, Rows, rowsOf, Marked, Kept, place, Memory, Exactly, Enters, Goes, exactly-same, exactly-none, exactly-then, goes-not, goes-over, goes-then}
 
--- the call is right, sure or not, with any memory
-abbrev CallRight : Ways → (n : ℕ) → (asked : Bool) → Call → ℕ → Type 0
-CallRight W n q f r = (s : Bool) (M : List ℕ) → Memory W n M → Answers (Memory W n) (W q r) s M (f r s M)
+-- ---- one thing after another, whatever Good says of every memory
 
--- ---- marks, and then more marks
+module _ {Good : List ℕ → Type 0} where
+  -- of `,`: the left operand, and where it passed the right one
+  enter-then : (a : Entered) {b : Entered} {M : List ℕ} {x y : Came} → Enters Good a M x → Enters Good b (x .memory) y
+      → Enters Good (thenEnter a b) M (cond (eqb (x .code) 2) y x)
+  enter-then (met l) p q = rw (p .same) (record { same = refl; marks = p .marks })
+  enter-then passed p q = rw (p .same) (record { same = q .same; marks = exactly-then [] _ (p .marks) (q .marks) })
+  enter-then blocked p q = rw (p .same) (record { same = refl; marks = p .marks })
 
-marks-none : {S : ℕ → Type 0} (M : List ℕ) → Marks S M M
-marks-none M = record { kept = λ l m. m; only = λ l m. inl m }
+  -- of `||`: the left operand, and where no letter was met the right one
+  enter-or : (a b : Entered) {M : List ℕ} {x y : Came} → Enters Good a M x → Enters Good b (x .memory) y
+      → Enters Good (orEnter a b) M (cond (eqb (x .code) 3) x (came (orEnterCode (x .code) (y .code)) (y .memory)))
+  enter-or (met l) b p q = rw (p .same) (record { same = refl; marks = p .marks })
+  enter-or passed (met l) p q = rw (p .same, q .same) (record { same = refl; marks = exactly-then [] _ (p .marks) (q .marks) })
+  enter-or passed passed p q = rw (p .same, q .same) (record { same = refl; marks = exactly-then [] [] (p .marks) (q .marks) })
+  enter-or passed blocked p q = rw (p .same, q .same) (record { same = refl; marks = exactly-then [] [] (p .marks) (q .marks) })
+  enter-or blocked (met l) p q = rw (p .same, q .same) (record { same = refl; marks = exactly-then [] _ (p .marks) (q .marks) })
+  enter-or blocked passed p q = rw (p .same, q .same) (record { same = refl; marks = exactly-then [] [] (p .marks) (q .marks) })
+  enter-or blocked blocked p q = rw (p .same, q .same) (record { same = refl; marks = exactly-then [] [] (p .marks) (q .marks) })
 
-marks-as : {S U : ℕ → Type 0} {M N : List ℕ} → ((l : ℕ) → S l → U l) → Marks S M N → Marks U M N
-marks-as f h = record { kept = h .kept; only = λ l m. ⊎-elim inl (λ z. inr (f l z)) (h .only l m) }
+  -- of a star, whose body is entered
+  enter-star : (a : Entered) {M : List ℕ} {x : Came} → Enters Good a M x → Enters Good (orPass a) M (came (orPassCode (x .code)) (x .memory))
+  enter-star (met l) p = record { same = ap orPassCode (p .same); marks = p .marks }
+  enter-star passed p = record { same = ap orPassCode (p .same); marks = p .marks }
+  enter-star blocked p = record { same = ap orPassCode (p .same); marks = p .marks }
 
-marks-then : {S : ℕ → Type 0} {M N P : List ℕ} → Marks S M N → Marks S N P → Marks S M P
-marks-then h g = record { kept = λ l m. g .kept l (h .kept l m); only = λ l m. ⊎-elim (h .only l) inr (g .only l m) }
+  -- a row is asked: it is entered, and left where it passed
+  ask-from : (a : Entered) {o : Option (List ℕ)} {M : List ℕ} {x : Came} (leave : Call) (r : ℕ) → Enters Good a M x
+      → (a ≡ passed → Goes Good o (x .memory) (leave r (x .memory))) → Goes Good (goesBy a o) M (askFrom leave r x)
+  ask-from (met l) leave r p q = rw (p .same) (record { yes = refl; marks = λ s. p .marks })
+  ask-from passed leave r p q = rw (p .same) (record { yes = q refl .yes; marks = λ s. exactly-then [] _ (p .marks) (q refl .marks s) })
+  ask-from blocked leave r p q = rw (p .same) (goes-not refl)
 
--- a way joined to none
-joined-none : (a : Option (List ℕ)) → joined a none ≡ none
-joined-none none = refl
-joined-none (some ns) = refl
+-- ---- tests, and stores
 
--- ---- one answer after another, whatever K says of every memory
-
-module _ {K : List ℕ → Type 0} where
-  -- answers that mark nothing more: a no, a yes
-  no-right : (s : Bool) {M : List ℕ} → K M → Answers K none s M (told false M)
-  no-right s {M} k = record { says = refl; keeps = k; marks = marks-none M; all = λ t l z. absurd z }
-
-  yes-right : {a : Option (List ℕ)} (s : Bool) {M : List ℕ} → K M → found a ≡ true → (T s → (l : ℕ) → OnWay l a → Marked M l) → Answers K a s M (told true M)
-  yes-right s {M} k f h = record { says = sym f; keeps = k; marks = marks-none M; all = h }
-
-  -- a test that does not hold
-  passed : {a : Option (List ℕ)} {s : Bool} {M : List ℕ} {y : Told} (b : Bool) → (T b → ⊥) → Answers K a s M y → Answers K a s M (cond b (told false M) y)
-  passed true e h = absurd (e tt)
-  passed false e h = h
-
-  -- after what marks nothing
-  after-right : {U : ℕ → Type 0} {a : Option (List ℕ)} {s : Bool} {M N : List ℕ} {y : Told} → Marks U M N → ((l : ℕ) → U l → ⊥) → Answers K a s N y → Answers K a s M y
-  after-right m e h = record { says = h .says; keeps = h .keeps; marks = marks-then (marks-as (λ l z. absurd (e l z)) m) (h .marks); all = h .all }
-
-  -- one answer, or else f's
-  orThen-right : (a : Option (List ℕ)) {b : Option (List ℕ)} {s : Bool} {M : List ℕ} {x : Told} (f : List ℕ → Told) → Answers K a s M x
-      → ((N : List ℕ) → K N → Answers K b s N (f N)) → Answers K (orElse a b) s M (orThen x f)
-  orThen-right none {b} {s} {M} {x} f h g =
-      subst (λ (v : Bool). Answers K b s M (cond v x (f (x .memory)))) (sym (h .says)) (after-right (h .marks) (λ l z. z .1) (g (x .memory) (h .keeps)))
-  orThen-right (some ns) {s} {M} {x} f h g = subst (λ (v : Bool). Answers K (some ns) s M (cond v x (f (x .memory)))) (sym (h .says)) h
-
-  -- a no, sure or not, and f is not called
-  andThen-no : {s s′ : Bool} {M : List ℕ} {x : Told} (f : List ℕ → Told) → Answers K none s′ M x → Answers K none s M (andThen x f)
-  andThen-no {s} {M} {x} f h = subst (λ (v : Bool). Answers K none s M (cond v (f (x .memory)) x)) (sym (h .says)) (record {
-    says = h .says;
-    keeps = h .keeps;
-    marks = marks-as (λ l z. absurd (z .1)) (h .marks);
-    all = λ t l z. absurd z;
-  })
-
-  -- a yes that is not sure, and then f
-  andThen-unsure : {a : Option (List ℕ)} {ns : List ℕ} {s : Bool} {M : List ℕ} {x : Told} (f : List ℕ → Told) → Answers K (some ns) false M x
-      → Answers K a s (x .memory) (f (x .memory)) → Answers K a s M (andThen x f)
-  andThen-unsure {a} {s} {M} {x} f h g =
-      subst (λ (v : Bool). Answers K a s M (cond v (f (x .memory)) x)) (sym (h .says)) (after-right (h .marks) (λ l z. z .0) g)
-
-  -- one answer, and then f, which says yes
-  andThen-joined : (a : Option (List ℕ)) {ms : List ℕ} {s : Bool} {M : List ℕ} {x : Told} (f : List ℕ → Told) → Answers K a s M x
-      → ((N : List ℕ) → K N → Answers K (some ms) s N (f N)) → Answers K (joined a (some ms)) s M (andThen x f)
-  andThen-joined none f h g = andThen-no f h
-  andThen-joined (some ns) {ms} {s} {M} {x} f h g =
-      let y = g (x .memory) (h .keeps) in
-      subst (λ (v : Bool). Answers K (some (ns ++ ms)) s M (cond v (f (x .memory)) x)) (sym (h .says)) (record {
-        says = y .says;
-        keeps = y .keeps;
-        marks = marks-then (marks-as (λ l z. (z .0, ∈-left ms (z .1))) (h .marks)) (marks-as (λ l z. (z .0, ∈-right ns (z .1))) (y .marks));
-        all = λ t l z. ⊎-elim (λ i. y .marks .kept l (h .all t l i)) (λ i. y .all t l i) (append-∈ ns z);
-      })
-
-  -- the thread is asked again only where that marks its letters
-  again-right : {b : Option (List ℕ)} (ask : Bool → List ℕ → Told) → ((s : Bool) (N : List ℕ) → K N → Answers K b s N (ask s N)) → found b ≡ true
-      → (s : Bool) (N : List ℕ) → K N → Answers K b s N (cond s (ask true N) (told true N))
-  again-right ask h f true N k = h true N k
-  again-right ask h f false N k = yes-right false k f (λ t. absurd t)
-
-  -- what the `@` is left to and its thread, joined
-  both-right : (a b : Option (List ℕ)) (ask leave : Call) (u thread : ℕ) {s : Bool} {M : List ℕ} → K M → ((s : Bool) (N : List ℕ) → K N → Answers K b s N (ask thread s N))
-      → ((N : List ℕ) → K N → Answers K a s N (leave u s N)) → Answers K (joined a b) s M (both ask leave u thread s M)
-  unfolding both
-  both-right a none ask leave u thread {s} {M} k h g = rw (joined-none a) (andThen-no (λ N. andThen (leave u s N) (λ P. cond s (ask thread true P) (told true P))) (h false M k))
-  both-right a (some ms) ask leave u thread {s} {M} k h g =
-      let x = h false M k in
-      andThen-unsure (λ N. andThen (leave u s N) (λ P. cond s (ask thread true P) (told true P))) x
-      (andThen-joined a (λ P. cond s (ask thread true P) (told true P)) (g (ask thread false M .memory) (x .keeps)) (again-right (ask thread) h refl s))
-
--- ---- what is kept
-
--- more marks may be made
-right-moves : {a : Option (List ℕ)} {k : ℕ} {M N : List ℕ} → ((l : ℕ) → Marked M l → Marked N l) → Right a k M → Right a k N
-right-moves m h = record { no-way = h .no-way; way = h .way; way-marked = λ e. (h .way-marked e .0, λ l z. m l (h .way-marked e .1 l z)); few = h .few }
-
--- no way is none
-not-found : (a : Option (List ℕ)) → false ≡ found a → a ≡ none
-not-found none e = refl
-not-found (some ns) e = let z : _≡_ {A = ℕ} 0 1 = cc in absurd (omega arith)
-
--- an answer is kept by its code
-code-right : (a : Option (List ℕ)) (y s : Bool) {M : List ℕ} → y ≡ found a → (T s → (l : ℕ) → OnWay l a → Marked M l) → Right a (answerCode y s) M
-code-right a true true e h = record { no-way = λ z. absurd (omega arith); way = λ z. absurd (omega arith); way-marked = λ z. (sym e, h tt); few = omega arith }
-code-right a true false e h = record { no-way = λ z. absurd (omega arith); way = λ z. sym e; way-marked = λ z. absurd (omega arith); few = omega arith }
-code-right a false s e h = record { no-way = λ z. not-found a e; way = λ z. absurd (omega arith); way-marked = λ z. absurd (omega arith); few = omega arith }
-
--- a known yes that needs no more marks
-settled-right : (a : Option (List ℕ)) (k : ℕ) (s : Bool) {M : List ℕ} → Right a k M → T (settled k s) → (found a ≡ true) × (T s → (l : ℕ) → OnWay l a → Marked M l)
-settled-right a k s h z = ⊎-elim
-    (λ e. let (f, m) = h .way-marked (eqb→eq k 3 e) in (f, λ t. m))
-    (λ e. let (u, w) = and-T (not s) (eqb k 2) e in (h .way (eqb→eq k 2 w), λ t. absurd (T-not s u t)))
-    (or-T (eqb k 3) (not s && eqb k 2) z)
+-- what is kept of an answer tells it
+told-by : (b : Bool) → eqb (answerCode b) 2 ≡ b
+told-by true = refl
+told-by false = refl
 
 -- the test of equality, turned round
 eqb-sym : (m n : ℕ) → eqb m n ≡ eqb n m
-eqb-sym m n = same-test (eqb m n) (eqb n m) (turned m n) (turned n m)
+eqb-sym m n = same-truth (eqb m n) (eqb n m) (turned m n) (turned n m)
   where
     turned : (m n : ℕ) → T (eqb m n) → T (eqb n m)
     turned m n e = rw (eqb→eq m n e) (eqb-refl n)
@@ -154,185 +80,191 @@ after-set M i j v h = go (ℕ-discrete j i)
 
 -- ---- with a memory of n rows
 
-module _ (W : Ways) (n : ℕ) (few : n ≤ 1024) where
+module _ (F : Rows) (n : ℕ) (few : n ≤ 1024) where
   -- a mark stands behind what is kept of the rows
-  behind : (q : Bool) (r l : ℕ) → r < n → 2048 + l ≡ base q + r → ⊥
+  behind : (q : Bool) (r l : ℕ) → r < n → 2048 + l ≡ place q r → ⊥
   behind true r l h e = omega arith
   behind false r l h e = omega arith
 
   -- and all of it within the memory
-  low : (q : Bool) (r : ℕ) → r < n → base q + r < 2304
+  low : (q : Bool) (r : ℕ) → r < n → place q r < 2304
   low true r h = omega arith
   low false r h = omega arith
 
-  -- each answer has its own place
-  same-way : (q p : Bool) (r i : ℕ) → r < n → i < n → base p + i ≡ base q + r → W p i ≡ W q r
-  same-way true true r i h k e = ap (W true) (omega arith)
-  same-way true false r i h k e = absurd (omega arith)
-  same-way false true r i h k e = absurd (omega arith)
-  same-way false false r i h k e = ap (W false) (omega arith)
+  -- each row has its own places
+  same-row : (q p : Bool) (r i : ℕ) → r < n → i < n → place p i ≡ place q r → F p i ≡ F q r
+  same-row true true r i h k e = ap (F true) (omega arith)
+  same-row true false r i h k e = absurd (omega arith)
+  same-row false true r i h k e = absurd (omega arith)
+  same-row false false r i h k e = ap (F false) (omega arith)
 
-  -- storing an answer leaves the marks as they are
-  stored-mark : (q : Bool) (r : ℕ) → r < n → (M : List ℕ) (k l : ℕ) → getD (set M (base q + r) k) (2048 + l) 0 ≡ getD M (2048 + l) 0
-  stored-mark q r h M k l = getD-set-other M (base q + r) (2048 + l) k 0 (behind q r l h)
-
-  stored-marks : {S : ℕ → Type 0} (q : Bool) (r : ℕ) → r < n → (M : List ℕ) (k : ℕ) → Marks S M (set M (base q + r) k)
-  stored-marks q r h M k = record { kept = λ l z. stored-mark q r h M k l ∙ z; only = λ l z. inl (sym (stored-mark q r h M k l) ∙ z) }
-
-  -- an answer is stored that is right
-  store-right : (q : Bool) (r : ℕ) → r < n → {M : List ℕ} (k : ℕ) → Memory W n M → Right (W q r) k M → Memory W n (set M (base q + r) k)
-  store-right q r h {M} k m c =
-      let still : (l : ℕ) → Marked M l → Marked (set M (base q + r) k) l = λ l z. stored-mark q r h M k l ∙ z in
+  -- what is known of a row is stored
+  stored : (q : Bool) (r : ℕ) → r < n → {M ns N : List ℕ} (k : ℕ) → Kept (F q r) k N → Exactly (Memory F n) M ns N → Exactly (Memory F n) M ns (set N (place q r) k)
+  stored q r h {M} {ns} {N} k c x =
+      let m = x .good in
+      let mark : (l : ℕ) → getD (set N (place q r) k) (2048 + l) 0 ≡ getD N (2048 + l) 0 = λ l. getD-set-other N (place q r) (2048 + l) k 0 (behind q r l h) in
       record {
-        long = length-set M (base q + r) k ∙ m .long;
-        answers = λ p i j. ⊎-elim
-            (λ z. rw (z .1, same-way q p r i h j (z .0)) (right-moves still c))
-            (λ z. rw z (right-moves still (m .answers p i j)))
-            (after-set M (base q + r) (base p + i) k (omega (arith, low q r h, m .long)));
-        bits = λ l b. rw (stored-mark q r h M k l) (m .bits l b);
+        good = record {
+          long = length-set N (place q r) k ∙ m .long;
+          rows = λ p i j. ⊎-elim
+              (λ z. rw (z .1, same-row q p r i h j (z .0)) (λ u. record { same = c .same; marked = λ l w. mark l ∙ c .marked l w }))
+              (λ z. rw z (λ u. let d = m .rows p i j u in record { same = d .same; marked = λ l w. mark l ∙ d .marked l w }))
+              (after-set N (place q r) (place p i) k (omega (arith, low q r h, m .long)));
+          bits = λ l b. rw (mark l) (m .bits l b);
+        };
+        grows = λ l z. mark l ∙ x .grows l z;
+        adds = λ l i. mark l ∙ x .adds l i;
+        only = λ l z. x .only l (sym (mark l) ∙ z);
       }
 
-  -- letter l is marked: it, no other, and what is kept stays right
-  module _ (l : ℕ) (small : l < 256) {M : List ℕ} (m : Memory W n M) where
-    now-marked : Marked (set M (2048 + l) 1) l
-    now-marked = getD-set-same M (2048 + l) 1 0 (omega (arith, m .long))
-
-    mark-marks : Marks (λ k. k ∈ (l ∷ [])) M (set M (2048 + l) 1)
-    mark-marks = record {
-      kept = λ k z. ⊎-elim (λ y. y .1) (λ y. y ∙ z) (at k);
-      only = λ k z. ⊎-elim (λ y. inr (here (omega (arith, y .0)))) (λ y. inl (sym y ∙ z)) (at k);
-    }
-      where
-        at : (k : ℕ) → ((2048 + k ≡ 2048 + l) × Marked (set M (2048 + l) 1) k) ⊎ (getD (set M (2048 + l) 1) (2048 + k) 0 ≡ getD M (2048 + k) 0)
-        at k = after-set M (2048 + l) (2048 + k) 1 (omega (arith, m .long))
-
-    mark-right : Memory W n (set M (2048 + l) 1)
-    mark-right = record {
+  -- letter l is marked, and no other
+  marked-now : (l : ℕ) → l < 256 → {M : List ℕ} → Memory F n M → Exactly (Memory F n) M (l ∷ []) (set M (2048 + l) 1)
+  marked-now l small {M} m = record {
+    good = record {
       long = length-set M (2048 + l) 1 ∙ m .long;
-      answers = λ q r h. rw (getD-set-other M (2048 + l) (base q + r) 1 0 (λ e. behind q r l h (sym e))) (right-moves (mark-marks .kept) (m .answers q r h));
-      bits = λ k b. ⊎-elim (λ y. omega (arith, y .1)) (λ y. omega (arith, y, m .bits k b)) (after-set M (2048 + l) (2048 + k) 1 (omega (arith, m .long)));
-    }
-
-  -- a letter is asked, and met or not
-  letter-right : (l : ℕ) → l < 256 → (met s : Bool) (M : List ℕ) → Memory W n M
-      → Answers (Memory W n) (cond met (some (l ∷ [])) none) s M (cond (leb 256 l) (told false M) (cond met (told true (cond s (set M (2048 + l) 1) M)) (told false M)))
-  letter-right l h met s M m = passed (leb 256 l) (λ z. omega (arith, leb→le 256 l z)) (go met s)
+      rows = λ q r h. rw (getD-set-other M (2048 + l) (place q r) 1 0 (λ e. behind q r l h (sym e))) (λ u. let d = m .rows q r h u in record { same = d .same; marked = λ k w. grown k (d .marked k w) });
+      bits = λ k b. ⊎-elim (λ y. omega (arith, y .1)) (λ y. omega (arith, y, m .bits k b)) (at k);
+    };
+    grows = grown;
+    adds = λ k i. rw (one-∈ i) (getD-set-same M (2048 + l) 1 0 (omega (arith, m .long)));
+    only = λ k z. ⊎-elim (λ y. inr (here (omega (arith, y .0)))) (λ y. inl (sym y ∙ z)) (at k);
+  }
     where
-      go : (met s : Bool) → Answers (Memory W n) (cond met (some (l ∷ [])) none) s M (cond met (told true (cond s (set M (2048 + l) 1) M)) (told false M))
-      go true true = record {
-        says = refl;
-        keeps = mark-right l h m;
-        marks = marks-as (λ k z. (tt, z)) (mark-marks l h m);
-        all = λ t k z. rw (one-∈ z) (now-marked l h m);
-      }
-      go true false = yes-right false m refl (λ t. absurd t)
-      go false s = no-right s m
+      at : (k : ℕ) → ((2048 + k ≡ 2048 + l) × Marked (set M (2048 + l) 1) k) ⊎ (getD (set M (2048 + l) 1) (2048 + k) 0 ≡ getD M (2048 + k) 0)
+      at k = after-set M (2048 + l) (2048 + k) 1 (omega (arith, m .long))
 
-  -- what is kept is right
-  known-right : (a : Option (List ℕ)) (k : ℕ) (s : Bool) {M : List ℕ} {y : Told} → Memory W n M → Right a k M → Answers (Memory W n) a s M y
-      → Answers (Memory W n) a s M (cond (eqb k 1) (told false M) (cond (settled k s) (told true M) y))
-  known-right a k s {M} {y} m h g = go (eqb k 1) (settled k s) (λ z. h .no-way (eqb→eq k 1 z)) (settled-right a k s h)
-    where
-      go : (b c : Bool) → (T b → a ≡ none) → (T c → (found a ≡ true) × (T s → (l : ℕ) → OnWay l a → Marked M l))
-          → Answers (Memory W n) a s M (cond b (told false M) (cond c (told true M) y))
-      go true c f e = rw (f tt) (no-right s m)
-      go false true f e = yes-right s m (e tt .0) (e tt .1)
-      go false false f e = g
+      grown : (k : ℕ) → Marked M k → Marked (set M (2048 + l) 1) k
+      grown k z = ⊎-elim (λ y. y .1) (λ y. y ∙ z) (at k)
 
-  -- what is kept, or else an answer that is kept from then on
-  remembered-right : (q : Bool) (f : Call) (r : ℕ) → r < n → (s : Bool) (M : List ℕ) → Memory W n M → Answers (Memory W n) (W q r) s M (f r s M)
-      → Answers (Memory W n) (W q r) s M (remembered (base q) f r s M)
-  remembered-right q f r h s M m g =
-      passed (leb 1024 r) (λ z. omega (arith, leb→le 1024 r z)) (known-right (W q r) (getD M (base q + r) 0) s m (m .answers q r h) (record {
-        says = g .says;
-        keeps = store-right q r h (answerCode (f r s M .yes) s) (g .keeps) (code-right (W q r) (f r s M .yes) s (g .says) (g .all));
-        marks = marks-then (g .marks) (stored-marks q r h (f r s M .memory) (answerCode (f r s M .yes) s));
-        all = λ t l z. stored-mark q r h (f r s M .memory) (answerCode (f r s M .yes) s) l ∙ g .all t l z;
-      }))
-
-  -- ---- one call by its row's kind, where the calls that it makes are right; a, b, c: what is known of each
-
-  module _ (g : Given) (t : Tick) (ask leave : Call) where
-    -- a row of kind k is asked
-    askOn-right : (k : Kind) (left right x r : ℕ) {a b c : Type 0} → CodedAs g t n left right x k
-        → (left < n → a → CallRight W n true ask left) → (right < n → b → CallRight W n true ask right) → (c → CallRight W n false leave r) → asksBy k a b c
-        → (s : Bool) (M : List ℕ) → Memory W n M → Answers (Memory W n) (askBy k t (W true left) (W true right) (W false r)) s M (askOn g ask leave x r s M)
-    unfolding askOn
-    askOn-right (is-letter l) left right x r c f h i e s M m = rw (c .0, c .1, c .3) (letter-right (l .number) (c .2) (meets l t) s M m)
-    askOn-right is-seq left right x r c f h i e s M m = rw (c .0, c .1) (f (c .3) e s M m)
-    askOn-right is-alt left right x r c f h i e s M m = rw (c .0, c .1, c .2) (orThen-right (W true left) (ask right s) (f (c .3) (e .0) s M m) (h (c .4) (e .1) s))
-    askOn-right is-star left right x r c f h i e s M m = rw (c .0, c .1) (orThen-right (W false r) (ask left s) (i (e .0) s M m) (f (c .2) (e .1) s))
-    askOn-right is-pipe left right x r c f h i e s M m = rw (c .0, c .1) (f (c .3) e s M m)
-
-    -- an operand of row u, of kind k, is left; o: it is the left one
-    leaveTo-right : (k : Kind) (o : Bool) (left right x u r : ℕ) {a b c : Type 0} → eqb r left ≡ o → CodedAs g t n left right x k
-        → (right < n → a → CallRight W n true ask right) → (b → CallRight W n false leave u) → (c → CallRight W n true ask u) → leavesBy k o a b c
-        → (s : Bool) (M : List ℕ) → Memory W n M → Answers (Memory W n) (leaveBy k o (W true right) (W false u) (W true u)) s M (leaveTo ask leave x u r s M)
-    unfolding leaveTo
-    leaveTo-right (is-letter l) o left right x u r d c f h i e s M m = rw (c .0) (no-right s m)
-    leaveTo-right is-seq true left right x u r d c f h i e s M m = rw (c .0, c .1, c .2, eqb-sym left r, d) (f (c .4) e s M m)
-    leaveTo-right is-seq false left right x u r d c f h i e s M m = rw (c .0, c .1, eqb-sym left r, d) (h e s M m)
-    leaveTo-right is-alt o left right x u r d c f h i e s M m = rw (c .0) (h e s M m)
-    leaveTo-right is-star o left right x u r d c f h i e s M m = rw (c .0) (i e s M m)
-    leaveTo-right is-pipe true left right x u r d c f h i e s M m =
-        rw (c .0, c .1, c .2, eqb-sym left r, d) (both-right (W false u) (W true right) ask leave u right m (f (c .4) (e .1)) (h (e .0) s))
-    leaveTo-right is-pipe false left right x u r d c f h i e s M m = rw (c .0, c .1, eqb-sym left r, d) (yes-right s m refl (λ z l w. absurd (no-∈ w)))
+  -- a letter is entered, and met or not
+  letter-right : (l : ℕ) → l < 256 → (b : Bool) {M : List ℕ} → Memory F n M → Enters (Memory F n) (cond b (met l) blocked) M (cond b (came 3 (set M (2048 + l) 1)) (came 1 M))
+  letter-right l h true m = record { same = refl; marks = marked-now l h m }
+  letter-right l h false m = record { same = refl; marks = exactly-none m }
 
 -- ---- the walk over a table
 
 module _ (R : Table) (g : Given) (t : Tick) (n : ℕ) (coded : Coded R g t n) (N : ℕ) where
-  -- one call, where those that it makes are right with one call fewer
-  module _ (ask leave : Call) (k r : ℕ) (below : r < n) (enough : suc k ≤ N)
-      (asks : (i : ℕ) → i < n → AskEnds k R i → CallRight (waysOf N R t) n true ask i)
-      (leaves : (i : ℕ) → i < n → LeaveEnds k R i → CallRight (waysOf N R t) n false leave i) where
-    -- row r is asked
-    ask-right : AskEnds (suc k) R r → CallRight (waysOf N R t) n true (remembered 0 (λ q. askOn g ask leave (getD (g .table) q 0) q)) r
-    ask-right e s M m =
-        remembered-right (waysOf N R t) n (coded .few) true (λ q. askOn g ask leave (getD (g .table) q 0) q) r below s M m
-        (rw (ask-unfolds R r (R r .kind) refl (suc k) N e enough t)
-        (askOn-right (waysOf N R t) n (coded .few) g t ask leave (R r .kind) (R r .left) (R r .right) (getD (g .table) r 0) r (coded .rows r below .coded)
-        (asks (R r .left)) (asks (R r .right)) (leaves r below) (ask-calls R r (R r .kind) refl k .0 e) s M m))
+  -- the memory is right; a call is, with any such memory: entering row r, asking it, leaving it
+  abbrev Good : List ℕ → Type 0
+  Good = Memory (rowsOf N R t) n
 
-    -- row r is left, and u is the row above it: a monitor's own row, an operand, either
-    module _ (u : ℕ) (up : R r .up ≡ u) (above : u < n) (e : LeaveEnds (suc k) R r) (s : Bool) (M : List ℕ) (m : Memory (waysOf N R t) n M) where
-      own-right : u ≡ r → Answers (Memory (waysOf N R t) n) (leaveRow N R r t) s M (ask r s M)
-      own-right d = rw (own-unfolds R r (up ∙ d) (suc k) N e enough t) (asks r below (own-calls R r (up ∙ d) k .0 e) s M m)
+  abbrev EnterRight : Entry → ℕ → Type 0
+  EnterRight f r = (M : List ℕ) → Good M → Enters Good (enterRow N R r t) M (f r M)
 
-      operand-right : (r ≡ u → ⊥) → Answers (Memory (waysOf N R t) n) (leaveRow N R r t) s M (leaveTo ask leave (getD (g .table) u 0) u r s M)
-      operand-right d =
-          rw (leave-unfolds R u r (R u .kind) refl (up, d) (eqb r (R u .left)) refl (suc k) N e enough t)
-          (leaveTo-right (waysOf N R t) n (coded .few) g t ask leave (R u .kind) (eqb r (R u .left)) (R u .left) (R u .right) (getD (g .table) u 0) u r refl
-          (coded .rows u above .coded) (asks (R u .right)) (leaves u above) (asks u above)
-          (leave-calls R u r (R u .kind) refl (up, d) (eqb r (R u .left)) refl k .0 e) s M m)
+  abbrev AskRight : Call → ℕ → Type 0
+  AskRight f r = (M : List ℕ) → Good M → Goes Good (askRow N R r t) M (f r M)
 
-      either-right : Answers (Memory (waysOf N R t) n) (leaveRow N R r t) s M (leaveOn g ask leave u r s M)
-      unfolding leaveOn
-      either-right = go (eqb u r) (eqb→eq u r) (λ f d. f (rw d (eqb-refl u)))
-        where
-          go : (o : Bool) → (T o → u ≡ r) → ((T o → ⊥) → r ≡ u → ⊥)
-              → Answers (Memory (waysOf N R t) n) (leaveRow N R r t) s M (cond o (ask r s M) (cond (leb 1024 u) (told false M) (leaveTo ask leave (getD (g .table) u 0) u r s M)))
-          go true f h = own-right (f tt)
-          go false f h = passed (leb 1024 u) (λ z. omega (arith, leb→le 1024 u z, coded .few)) (operand-right (h (λ z. z)))
+  abbrev LeaveRight : Call → ℕ → Type 0
+  LeaveRight f r = (M : List ℕ) → Good M → Goes Good (leaveRow N R r t) M (f r M)
 
-    -- row r is left
-    leave-right : LeaveEnds (suc k) R r → CallRight (waysOf N R t) n false (remembered 1024 (λ q. leaveOn g ask leave (part3 (getD (g .table) q 0)) q)) r
-    leave-right e s M m =
-        remembered-right (waysOf N R t) n (coded .few) false (λ q. leaveOn g ask leave (part3 (getD (g .table) q 0)) q) r below s M m
-        (rw (coded .rows r below .up) (either-right (R r .up) refl (coded .rows r below .up-within) e s M m))
+  -- what is kept, or else what f comes to, which is kept from then on
+  entry-remembered : (f : Entry) (r : ℕ) → r < n → EnterRight f r → EnterRight (rememberedEntry f) r
+  entry-remembered f r h p M m = rw (lt-leb 1024 r (omega (arith, coded .few))) (go (eqb (getD M r 0) 0) refl)
+    where
+      go : (b : Bool) → eqb (getD M r 0) 0 ≡ b
+          → Enters Good (enterRow N R r t) M (cond b (came (f r M .code) (set (f r M .memory) r (f r M .code))) (came (getD M r 0) M))
+      go true e =
+          let q = p M m in
+          record { same = q .same; marks = stored (rowsOf N R t) n (coded .few) true r h (f r M .code) (record { same = q .same; marked = q .marks .adds }) (q .marks) }
+      go false e = let c = m .rows true r h (eqb-false (getD M r 0) 0 e) in record { same = c .same; marks = exactly-same m (c .marked) }
+
+  answer-remembered : (f : Call) (r : ℕ) → r < n → LeaveRight f r → LeaveRight (remembered f) r
+  answer-remembered f r h p M m = rw (lt-leb 1024 r (omega (arith, coded .few))) (go (eqb (getD M (1024 + r) 0) 0) refl)
+    where
+      go : (b : Bool) → eqb (getD M (1024 + r) 0) 0 ≡ b
+          → Goes Good (leaveRow N R r t) M (cond b (told (f r M .yes) (set (f r M .memory) (1024 + r) (answerCode (f r M .yes)))) (told (eqb (getD M (1024 + r) 0) 2) M))
+      go true e =
+          let q = p M m in
+          record {
+            yes = q .yes;
+            marks = λ s. stored (rowsOf N R t) n (coded .few) false r h (answerCode (f r M .yes)) (record { same = ap answerCode (q .yes); marked = q .marks s .adds }) (q .marks s);
+          }
+      go false e =
+          let c = m .rows false r h (eqb-false (getD M (1024 + r) 0) 0 e) in
+          record { yes = rw (c .same) (told-by (found (leaveRow N R r t))); marks = λ s. exactly-same m (c .marked) }
+
+  -- ---- one call by its row's kind, where the calls that it makes are right; a, b, c: what is known of each
+
+  -- a row of kind k is entered
+  enterOn-right : (enter : Entry) (k : Kind) (left right x : ℕ) {a b : Type 0} → CodedAs g t n left right x k
+      → (left < n → a → EnterRight enter left) → (right < n → b → EnterRight enter right) → entersBy k a b
+      → (M : List ℕ) → Good M → Enters Good (enterBy k t (enterRow N R left t) (enterRow N R right t)) M (enterOn g enter x M)
+  unfolding enterOn
+  enterOn-right enter (is-letter l) left right x c f h e M m =
+      rw (c .0, c .1, c .3, lt-leb 256 (l .number) (c .2)) (letter-right (rowsOf N R t) n (coded .few) (l .number) (c .2) (meets l t) m)
+  enterOn-right enter is-seq left right x c f h e M m =
+      let p = f (c .3) (e .0) M m in
+      rw (c .0, c .1, c .2) (enter-then (enterRow N R left t) p (h (c .4) (e .1) (enter left M .memory) (p .marks .good)))
+  enterOn-right enter is-alt left right x c f h e M m =
+      let p = f (c .3) (e .0) M m in
+      rw (c .0, c .1, c .2) (enter-or (enterRow N R left t) (enterRow N R right t) p (h (c .4) (e .1) (enter left M .memory) (p .marks .good)))
+  enterOn-right enter is-star left right x c f h e M m = rw (c .0, c .1) (enter-star (enterRow N R left t) (f (c .2) e M m))
+  enterOn-right enter is-pipe left right x c f h e M m = rw (c .0, c .1) (f (c .3) e M m)
+
+  -- an operand of row u, of kind k, is left; o: it is the left one
+  leaveTo-right : (ask leave : Call) (k : Kind) (o : Bool) (left right x u r : ℕ) {a b c : Type 0} → eqb r left ≡ o → CodedAs g t n left right x k
+      → (right < n → a → AskRight ask right) → (b → LeaveRight leave u) → (c → AskRight ask u) → leavesBy k o a b c
+      → (M : List ℕ) → Good M → Goes Good (leaveBy k o (askRow N R right t) (leaveRow N R u t) (askRow N R u t)) M (leaveTo ask leave x u r M)
+  unfolding leaveTo
+  leaveTo-right ask leave (is-letter l) o left right x u r d c f h i e M m = rw (c .0) (goes-not refl)
+  leaveTo-right ask leave is-seq true left right x u r d c f h i e M m = rw (c .0, c .1, c .2, eqb-sym left r, d) (f (c .4) e M m)
+  leaveTo-right ask leave is-seq false left right x u r d c f h i e M m = rw (c .0, c .1, eqb-sym left r, d) (h e M m)
+  leaveTo-right ask leave is-alt o left right x u r d c f h i e M m = rw (c .0) (h e M m)
+  leaveTo-right ask leave is-star o left right x u r d c f h i e M m = rw (c .0) (i e M m)
+  leaveTo-right ask leave is-pipe true left right x u r d c f h i e M m =
+      rw (c .0, c .1, c .2, eqb-sym left r, d) (goes-then (leaveRow N R u t) (askRow N R right t) (ask right) (h (e .0) M m) (f (c .4) (e .1)))
+  leaveTo-right ask leave is-pipe false left right x u r d c f h i e M m = rw (c .0, c .1, eqb-sym left r, d) (goes-over m)
+
+  -- ---- entering row r, k calls deep: where they are enough, it comes to what it does in the table
+
+  enters-right : (k r : ℕ) → r < n → EnterEnds k R r → k ≤ N → EnterRight (enterM k g) r
+  unfolding enterM EnterEnds
+  enters-right zero r h e le = absurd e
+  enters-right (suc k) r h e le =
+      entry-remembered (λ q. enterOn g (enterM k g) (getD (g .table) q 0)) r h (λ M m.
+      rw (enter-unfolds R r (R r .kind) refl (suc k) N e le t)
+      (enterOn-right (enterM k g) (R r .kind) (R r .left) (R r .right) (getD (g .table) r 0) (coded .rows r h .coded)
+      (λ j w. enters-right k (R r .left) j w (omega arith)) (λ j w. enters-right k (R r .right) j w (omega arith)) (enter-calls R r (R r .kind) refl k .0 e) M m))
+
+  -- ---- leaving row r, where the calls that it makes are right with one call fewer; u is the row above it
+
+  module _ (ask leave : Call) (k r : ℕ) (below : r < n) (enough : suc k ≤ N) (asks : (i : ℕ) → i < n → AskEnds k R i t → AskRight ask i)
+      (leaves : (i : ℕ) → i < n → LeaveEnds k R i t → LeaveRight leave i) (e : LeaveEnds (suc k) R r t) (u : ℕ) (up : R r .up ≡ u) (above : u < n) where
+    -- it is an operand
+    operand-right : (r ≡ u → ⊥) → LeaveRight (leaveTo ask leave (getD (g .table) u 0) u) r
+    operand-right d M m =
+        rw (leave-unfolds R u r (R u .kind) refl (up, d) (eqb r (R u .left)) refl (suc k) N t e enough)
+        (leaveTo-right ask leave (R u .kind) (eqb r (R u .left)) (R u .left) (R u .right) (getD (g .table) u 0) u r refl
+        (coded .rows u above .coded) (asks (R u .right)) (leaves u above) (asks u above)
+        (leave-calls R u r (R u .kind) refl (up, d) (eqb r (R u .left)) refl k t .0 e) M m)
+
+    -- or a monitor's own row
+    either-right : LeaveRight (leaveOn g ask leave u) r
+    unfolding leaveOn
+    either-right M m = go (eqb u r) refl
+      where
+        go : (o : Bool) → eqb u r ≡ o → Goes Good (leaveRow N R r t) M (cond o (ask r M) (cond (leb 1024 u) (told false M) (leaveTo ask leave (getD (g .table) u 0) u r M)))
+        go true z =
+            let own = up ∙ eqb-true u r z in
+            rw (own-unfolds R r own (suc k) N t e enough) (asks r below (own-calls R r own k t .0 e) M m)
+        go false z = rw (lt-leb 1024 u (omega (arith, coded .few))) (operand-right (λ d. eqb-false u r z (sym d)) M m)
 
   mutual
     unfolding askM AskEnds
 
-    -- asking row r, k calls deep: where they are enough, the answer is the table's
-    pub asks-right : (k r : ℕ) → r < n → AskEnds k R r → k ≤ N → (s : Bool) (M : List ℕ) → Memory (waysOf N R t) n M
-        → Answers (Memory (waysOf N R t) n) (askRow N R r t) s M (askM k g r s M)
-    asks-right zero r h e le s M m = absurd e
-    asks-right (suc k) r h e le s M m =
-        ask-right (askM k g) (leaveM k g) k r h le (λ i j w u P p. asks-right k i j w (omega arith) u P p) (λ i j w u P p. leaves-right k i j w (omega arith) u P p) e s M m
+    -- asking row r
+    pub asks-right : (k r : ℕ) → r < n → AskEnds k R r t → k ≤ N → AskRight (askM k g) r
+    asks-right zero r h e le = absurd e
+    asks-right (suc k) r h e le = λ M m.
+        let p = enters-right k r h (e .0) (omega arith) M m in
+        rw (ask-unfolds R r (suc k) N t e le)
+        (ask-from (enterRow N R r t) (leaveM k g) r p (λ q. leaves-right k r h (passes-on R r k N t e (omega arith) q) (omega arith) (enterM k g r M .memory) (p .marks .good)))
 
-    -- leaving row r
-    pub leaves-right : (k r : ℕ) → r < n → LeaveEnds k R r → k ≤ N → (s : Bool) (M : List ℕ) → Memory (waysOf N R t) n M
-        → Answers (Memory (waysOf N R t) n) (leaveRow N R r t) s M (leaveM k g r s M)
-    leaves-right zero r h e le s M m = absurd e
-    leaves-right (suc k) r h e le s M m =
-        leave-right (askM k g) (leaveM k g) k r h le (λ i j w u P p. asks-right k i j w (omega arith) u P p) (λ i j w u P p. leaves-right k i j w (omega arith) u P p) e s M m
+    -- leaving it
+    pub leaves-right : (k r : ℕ) → r < n → LeaveEnds k R r t → k ≤ N → LeaveRight (leaveM k g) r
+    leaves-right zero r h e le = absurd e
+    leaves-right (suc k) r h e le =
+        answer-remembered (λ q. leaveOn g (askM k g) (leaveM k g) (part3 (getD (g .table) q 0)) q) r h (λ M m.
+        rw (coded .rows r h .up)
+        (either-right (askM k g) (leaveM k g) k r h le (λ i j w. asks-right k i j w (omega arith)) (λ i j w. leaves-right k i j w (omega arith)) e (R r .up) refl
+        (coded .rows r h .up-within) M m))

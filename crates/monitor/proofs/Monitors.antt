@@ -12,7 +12,7 @@ use lib.ListN.{length, getD}
 use Rattle.meaning.specs.Lists.{_∈_}
 use Rattle.meaning.specs.Expression.{Letter, Exp, star, letters, size, rows, renumbered, Ordered}
 use Rattle.meaning.specs.Fit.{Tick}
-use Rattle.meaning.specs.Positions.{stuck, ask, leave, Positions, at-start, on, go}
+use Rattle.meaning.specs.Positions.{stuck, leave, Positions, at-start, on, go}
 use Rattle.meaning.specs.Table.{Table, Holds, askRow, leaveRow}
 use Rattle.meaning.proofs.ListLaws.{here, there}
 use Rattle.meaning.proofs.Step.{Solid}
@@ -23,7 +23,8 @@ use Rattle.meaning.proofs.Shifted.{shift, shiftPositions, go-renumbered, renumb
 use Rattle.monitor.specs.Letters.{Given}
 use Rattle.monitor.specs.Walk.{askM, leaveM}
 use Rattle.monitor.specs.Ticks.{steps, Layout, lettersEnd, monitorGoes}
-use Rattle.monitor.proofs.Going.{Goes, MarksAre, goBy, both-go, AllGo}
+use Rattle.monitor.proofs.Memory.{Goes}
+use Rattle.monitor.proofs.Going.{MarksAre, goBy, both-go, AllGo}
 use Rattle.monitor.proofs.Moves.{Counted, letters-long, ordered-counted, MarksAll}
 
 -- letters numbered one after the other have every number in between
@@ -50,8 +51,8 @@ pub record Standing (R : Table) (places : List ℕ) (y : Layout) (n i r l : ℕ)
   pub end : lettersEnd (y .firsts) (y .monitors) (y .letters) i ≡ l + size m
 
 module _ (Good : List ℕ → Type 0) (g : Given) (t : Tick) (R : Table) (n : ℕ) (y : Layout) (marks : List ℕ)
-    (asks : (r : ℕ) → r < n → AskEnds steps R r → (M : List ℕ) → Good M → Goes Good (askRow steps R r t) M (askM steps g r true M))
-    (leaves : (r : ℕ) → r < n → LeaveEnds steps R r → (M : List ℕ) → Good M → Goes Good (leaveRow steps R r t) M (leaveM steps g r true M)) where
+    (asks : (r : ℕ) → r < n → AskEnds steps R r t → (M : List ℕ) → Good M → Goes Good (askRow steps R r t) M (askM steps g r M))
+    (leaves : (r : ℕ) → r < n → LeaveEnds steps R r t → (M : List ℕ) → Good M → Goes Good (leaveRow steps R r t) M (leaveM steps g r M)) where
   module _ (i r l : ℕ) (m : Exp) (s : Standing R (y .places) y n i r l m) (ordered : Ordered 0 m) (solid : Solid (star m)) where
     abbrev place : ℕ → ℕ
     place k = getD (y .places) k 0
@@ -60,25 +61,22 @@ module _ (Good : List ℕ → Type 0) (g : Given) (t : Tick) (R : Table) (n : �
     unfolding renumbered
     solid′ = renumbered-solid l (star m) solid
 
-    start-way : (M : List ℕ) → Good M → Goes Good (go (renumbered l m) at-start t) M (askM steps g (getD (y .own) i 0) true M)
+    start-way : (M : List ℕ) → Good M → Goes Good (go (renumbered l m) at-start t) M (askM steps g (getD (y .own) i 0) M)
     unfolding go
     start-way M p =
-        let (e, q) = top-asks R place r (renumbered l m) (s .held) solid′ steps (let z = renumbered-rows l m in let f = s .few in omega (arith, z, f)) in
-        subst (λ (o : ℕ). Goes Good (ask (star (renumbered l m)) stuck t) M (askM steps g o true M)) (sym (s .row))
-        (subst (λ (a : Option (List ℕ)). Goes Good a M (askM steps g r true M)) (q t) (asks r (s .within) e M p))
+        let (e, q) = top-asks R place r (renumbered l m) (s .held) solid′ steps (let z = renumbered-rows l m in let f = s .few in omega (arith, z, f)) t in
+        rw (s .row) (rw q at (asks r (s .within) e M p))
 
     letter-way : (k : ℕ) → l ≤ k → k < l + size m → (M : List ℕ) → Good M
-        → Goes Good (leave k (star (renumbered l m)) stuck t) M (leaveM steps g (getD (y .places) k 0) true M)
+        → Goes Good (leave k (star (renumbered l m)) stuck t) M (leaveM steps g (getD (y .places) k 0) M)
     letter-way k a b M p =
         let o = renumbered-ordered l m in
         let z = renumbered-size l m in
         let d = letters-long (renumbered l m) in
         let (x, j, h) = counted-has l (letters (renumbered l m)) (ordered-counted l (renumbered l m) o) k a (omega (arith, b, z, d)) in
         let (e, q) = letter-leaves R place r (renumbered l m) (s .held) solid′ (s .top) (numbered l (renumbered l m) o) x j steps
-        (let u = renumbered-rows l m in let f = s .few in omega (arith, u, f)) in
-        subst (λ (w : ℕ). Goes Good (leave w (star (renumbered l m)) stuck t) M (leaveM steps g (getD (y .places) w 0) true M)) h
-        (subst (λ (w : Option (List ℕ)). Goes Good w M (leaveM steps g (getD (y .places) (x .number) 0) true M)) (q t)
-        (leaves (getD (y .places) (x .number) 0) (subst (λ (w : ℕ). getD (y .places) w 0 < n) (sym h) (s .letters-within k a b)) e M p))
+        (let u = renumbered-rows l m in let f = s .few in omega (arith, u, f)) t in
+        rw (← h) (rw q at (leaves (place (x .number)) (rw h (s .letters-within k a b)) e M p))
 
     pub monitor-goes : (x : Positions) → MarksAre marks i (size m) l (shiftPositions l x) → (M : List ℕ) → Good M
         → Goes Good (shift l (go m x t)) M (monitorGoes g y marks i M)
@@ -101,8 +99,8 @@ AllStanding R places y n i r l [] = Unit {0}
 AllStanding R places y n i r l (m ∷ ms) = Standing R places y n i r l m × AllStanding R places y n (suc i) (r + rows m) (l + size m) ms
 
 module _ (Good : List ℕ → Type 0) (g : Given) (t : Tick) (R : Table) (n : ℕ) (y : Layout) (marks : List ℕ)
-    (asks : (r : ℕ) → r < n → AskEnds steps R r → (M : List ℕ) → Good M → Goes Good (askRow steps R r t) M (askM steps g r true M))
-    (leaves : (r : ℕ) → r < n → LeaveEnds steps R r → (M : List ℕ) → Good M → Goes Good (leaveRow steps R r t) M (leaveM steps g r true M)) where
+    (asks : (r : ℕ) → r < n → AskEnds steps R r t → (M : List ℕ) → Good M → Goes Good (askRow steps R r t) M (askM steps g r M))
+    (leaves : (r : ℕ) → r < n → LeaveEnds steps R r t → (M : List ℕ) → Good M → Goes Good (leaveRow steps R r t) M (leaveM steps g r M)) where
   pub all-go : (i r l : ℕ) (ms : List Exp) (xs : List Positions) → AllStanding R (y .places) y n i r l ms → ((m : Exp) → m ∈ ms → Ordered 0 m × Solid (star m))
       → MarksAll marks i l ms xs → AllGo Good g t y marks i l ms xs
   unfolding AllStanding MarksAll AllGo

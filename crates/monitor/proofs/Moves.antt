@@ -12,7 +12,7 @@ use Rattle.meaning.specs.Expression.{Letter, Exp, letter, seq, alt, star, pipe,
 use Rattle.meaning.specs.Fit.{Tick, write, writeMet}
 use Rattle.meaning.specs.Positions.{Positions, kept, keptEach, writeEach}
 use Rattle.meaning.proofs.ListLaws.{here, there, clash, no-∈, append-∈, ∈-left, ∈-right, map-∈, ∈-map, any-from, any-to}
-use Rattle.meaning.proofs.Monitor.{same-test}
+use Rattle.meaning.proofs.ListLaws.{same-truth as same-test}
 use Rattle.meaning.proofs.Shifted.{shiftAll, shiftPositions}
 use Rattle.monitor.specs.Letters.{Given, writeLetter}
 use Rattle.monitor.specs.Ticks.{writeIf, writeMarked}

@@ -2,7 +2,7 @@
 -- monitor's own row and first letter are known. So a tick over the watch's numbers is one over the rows of the program. Assumes nothing.
 use mathlib.Core.Path.{_≡_, refl, sym, ap, ap₂, _∙_, subst}
 use mathlib.Core.Bool.{cond}
-use mathlib.Core.List.{List, [], _∷_, map, map-map}
+use mathlib.Core.List.{List, [], _∷_, map}
 use Prim.Native.Nat.{ℕ, suc, _+_, _<_, _≤_, min}
 use native.Mathlib.Omega.{arith}
 use borrow.Author.Tests.{lt-ltb, le-ltb}
@@ -18,20 +18,21 @@ use Rattle.meaning.proofs.Numbering.{renumbered-size, renumbered-rows}
 use Rattle.meaning.proofs.Rows.{Stands, rows-no-more}
 use Rattle.meaning.proofs.Openings.{accepted-text, rows-fit}
 use Rattle.meaning.proofs.Openings as openings
-use Rattle.rules.specs.Laying.{codeOf}
+use Rattle.words.specs.Words.{part0}
+use Rattle.rules.specs.Laying.{rowWord}
 use Rattle.rules.specs.Monitors.{codesAll, startsBy, withMonitors}
-use Rattle.rules.specs.Watches.{noLists, rowWords, lettersFrom, watchBy, watchOf}
+use Rattle.rules.specs.Watches.{noLists, lettersFrom, watchBy, watchOf}
 use Rattle.rules.specs.declared.Watch.{Watch}
 use Rattle.monitor.specs.Letters.{Given, letterMet}
 use Rattle.monitor.specs.Ticks.{layout, within, lettersEnd}
 use Rattle.monitor.specs.Calls.{layoutOf}
 use Rattle.monitor.proofs.Coded.{Coded}
 use Rattle.monitor.proofs.FewMonitors.{few-monitors}
-use Rattle.monitor.proofs.Stored.{stands-at, stands-self, each-at, stored, stored-at, taken}
+use Rattle.monitor.proofs.Stored.{stands-at, stands-self, each-at, stored, taken}
 use Rattle.monitor.proofs.Numbered.{programOf, InOrder, numbered-in-order, total-numbered, length-numbered, watch-numbered, numbers-below}
-use Rattle.monitor.proofs.RowWords.{wordOf, RowFits, Tested, codes-all, words-long, words-at, codes-long, row-word, all-fit, row-coded}
+use Rattle.monitor.proofs.RowWords.{wordOf, RowFits, Tested, words-laid, words-long, row-word, all-fit, row-coded}
 use Rattle.monitor.proofs.LetterIndex.{LetterStands, all-letters}
-use Rattle.monitor.proofs.LetterRows.{rowsOfLetters, kinds, HeldAll, all-letters-laid, rows-of-letters-long, all-rows-low, all-held}
+use Rattle.monitor.proofs.LetterRows.{rowsOfLetters, kinds, kinds-kept, HeldAll, all-letters-laid, rows-of-letters-long, all-rows-low, all-held}
 
 -- the rows of an opened program, and the row of its letter i
 abbrev pub tableOf : Opened → Table
@@ -130,12 +131,8 @@ module _ (o : Opened) (c : Counted o) where
   -- The word of each row is that of meaning's table.
   pub words-right : (r : ℕ) → r < o .rowCount → getD (watchOf (value o) .table) r 0 ≡ wordOf (tableOf o r)
   words-right r h =
-      let n = o .rowCount in
-      let A = withMonitors noLists 0 0 0 (programOf o) .rows-of in
       ap (λ (v : Watch). getD (v .table) r 0) (watch-numbered o)
-      ∙ stored-at 1024 (rowWords n A) r (omega (arith, words-long n A, c .few-rows)) (omega (arith, words-long n A))
-      ∙ words-at n A r h
-      ∙ row-word (programOf o) in-order n (sym program-rows) (omega (arith, c .few-rows)) r h
+      ∙ row-word (programOf o) in-order (omega (arith, program-rows, c .few-rows)) r (omega (arith, program-rows))
 
   -- all rows point at rows, and letters are as Q says
   pub rows-right : (Q : Letter → Type 0) → ((m : Exp) → m ∈ programOf o → (x : Letter) → x ∈ letters m → Q x) → (r : ℕ) → r < o .rowCount
@@ -165,18 +162,16 @@ module _ (o : Opened) (c : Counted o) where
       (all-letters (programOf o) in-order (omega (arith, program-letters, c .few-letters)) (o .rowCount) (o .letterCount) (length (o .monitors)) (o .wires) (o .initial) m i x j)
 
   -- the kinds that the watch's places were found by
-  kinds-kept : take (o .rowCount) (withMonitors noLists 0 0 0 (programOf o) .rows-of .kind) ≡ kinds (laidAll 0 (programOf o))
-  kinds-kept =
-      let ks = map (λ x. x .kind) (codesAll 0 0 (programOf o)) in
-      let l = codes-long (programOf o) in-order (o .rowCount) (sym program-rows) (omega (arith, c .few-rows)) (λ x. x .kind) in
-      taken 1024 (o .rowCount) ks l (omega (arith, c .few-rows))
-      ∙ ap (map (λ x. x .kind)) (codes-all 0 0 (programOf o) in-order) ∙ map-map (λ x. x .kind) (codeOf 0) (laidAll 0 (programOf o))
+  the-kinds : map part0 (take (o .rowCount) (withMonitors noLists 0 0 0 (programOf o) .table)) ≡ kinds (laidAll 0 (programOf o))
+  the-kinds =
+      ap (map part0) (taken 1024 (o .rowCount) (map rowWord (codesAll 0 0 (programOf o))) (words-long (programOf o) in-order ∙ program-rows) (omega (arith, c .few-rows)) ∙ words-laid (programOf o) in-order)
+      ∙ kinds-kept (laidAll 0 (programOf o))
 
   places-stand : Stands (placeOf o) 0 (rowsOfLetters 0 (programOf o))
   places-stand =
       subst (λ (v : Watch). Stands (λ i. getD (v .places) i 0) 0 (rowsOfLetters 0 (programOf o))) (sym (watch-numbered o))
       (subst (λ (xs : List ℕ). Stands (λ i. getD (sets (replicate 256 0) 0 xs) i 0) 0 (rowsOfLetters 0 (programOf o)))
-      (sym (ap (lettersFrom 0) kinds-kept ∙ all-letters-laid 0 (programOf o)))
+      (sym (ap (lettersFrom 0) the-kinds ∙ all-letters-laid 0 (programOf o)))
       (stored 256 (rowsOfLetters 0 (programOf o)) (omega (arith, rows-of-letters-long 0 (programOf o), program-letters, c .few-letters))))
 
   -- The table holds the monitors, and the watch's places tell their letters' rows.

@@ -1,14 +1,10 @@
 -- The words of a watch's rows are those of the rows of meaning's table. Assumes nothing.
 use mathlib.Core.Path.{_≡_, refl, sym, ap, ap₂, _∙_}
-use mathlib.Core.Bool.{Bool, true, false}
 use mathlib.Core.List.{List, [], _∷_, _++_, map, map-append, map-map}
-use Prim.Native.Nat.{ℕ, zero, suc, _+_, _<_, _≤_}
-use native.Mathlib.Nat.{zero-add, not-suc-le-zero}
+use Prim.Native.Nat.{ℕ, suc, _+_, _<_, _≤_}
+use native.Mathlib.Nat.{zero-add}
 use native.Mathlib.Omega.{arith}
-use lib.Dec.{ltb}
-use borrow.Author.Tests.{ltb-true, ltb-false}
-use lib.ListN.{length, length-append, length-map, getD, replicate, List·getD-append}
-use lib.Seq.{sets, getD-at}
+use lib.ListN.{length, length-map, getD}
 use Rattle.meaning.specs.Lists.{_∈_, total}
 use Rattle.meaning.specs.Expression.{Letter, Exp, letter, seq, alt, star, pipe, letters, size, rows}
 use Rattle.meaning.specs.Fit.{Tick, meets}
@@ -17,11 +13,11 @@ use Rattle.meaning.proofs.ListLaws.{here, there, ∈-left, ∈-right}
 use Rattle.meaning.proofs.Walk.{a-row}
 use Rattle.meaning.proofs.Rows.{rows-no-more}
 use Rattle.meaning.proofs.Within.{Each}
-use Rattle.rules.specs.Words.{quad, part0, part1, part2, part3}
-use Rattle.rules.specs.Laying.{RowCode, kindCode, leftCode, codeOf, RowLists}
+use Rattle.words.specs.Words.{quad, part0, part1, part2, part3}
+use Rattle.rules.specs.Laying.{kindCode, leftCode, codeOf, rowWord}
 use Rattle.rules.specs.Monitors.{codesAll, withMonitors}
-use Rattle.rules.specs.Watches.{noLists, rowWord, rowWords}
-use Rattle.rules.proofs.Numbers.{quad-0, quad-1, quad-2, quad-3}
+use Rattle.rules.specs.Watches.{noLists}
+use Rattle.words.proofs.Quads.{quad-0, quad-1, quad-2, quad-3}
 use Rattle.rules.proofs.TableRows.{codes-laid}
 use Rattle.monitor.specs.Letters.{Given, letterMet}
 use Rattle.monitor.proofs.Coded.{CodedAs}
@@ -32,49 +28,26 @@ use Rattle.monitor.proofs.Numbered.{InOrder}
 
 -- the word of a row
 abbrev pub wordOf : Row → ℕ
-wordOf x = quad (kindCode (x .kind)) (leftCode 0 (x .left) (x .kind)) (x .right) (x .up)
+wordOf x = rowWord (codeOf 0 x)
 
-pub codes-all : (r k : ℕ) (ms : List Exp) → InOrder k ms → codesAll r k ms ≡ map (codeOf 0) (laidAll r ms)
+codes-all : (r k : ℕ) (ms : List Exp) → InOrder k ms → codesAll r k ms ≡ map (codeOf 0) (laidAll r ms)
 unfolding codesAll laidAll
 codes-all r k [] o = refl
 codes-all r k (m ∷ ms) o =
     ap₂ _++_ (codes-laid r r 0 k k m (sym (zero-add k)) (o .0)) (codes-all (r + rows m) (k + size m) ms (o .1))
     ∙ sym (map-append (codeOf 0) (laid r r m) (laidAll (r + rows m) ms))
 
-pub words-long : (n : ℕ) (A : RowLists) → length (rowWords n A) ≡ n
-unfolding rowWords
-words-long zero A = refl
-words-long (suc n) A = omega (arith, length-append (rowWords n A) (rowWord A n ∷ []), words-long n A)
+module _ (gs : List Exp) (order : InOrder 0 gs) where
+  pub words-laid : map rowWord (codesAll 0 0 gs) ≡ map wordOf (laidAll 0 gs)
+  words-laid = ap (map rowWord) (codes-all 0 0 gs order) ∙ map-map rowWord (codeOf 0) (laidAll 0 gs)
 
-pub words-at : (n : ℕ) (A : RowLists) (r : ℕ) → r < n → getD (rowWords n A) r 0 ≡ rowWord A r
-unfolding rowWords
-words-at zero A r h = absurd (not-suc-le-zero h)
-words-at (suc n) A r h = by (ltb r n) refl (words-at n A r)
-  where
-    by : (b : Bool) → ltb r n ≡ b → (r < n → getD (rowWords n A) r 0 ≡ rowWord A r) → getD (rowWords n A ++ (rowWord A n ∷ [])) r 0 ≡ rowWord A r
-    by true e ih =
-        let l = ltb-true r n e in
-        List·getD-append (rowWords n A) (rowWord A n ∷ []) 0 r (omega (arith, words-long n A)) ∙ ih l
-    by false e ih =
-        let q : n ≡ r = omega (arith, ltb-false r n e) in
-        getD-at (rowWords n A) (rowWord A n) [] 0 r (words-long n A ∙ q) ∙ ap (rowWord A) q
+  pub words-long : length (map rowWord (codesAll 0 0 gs)) ≡ total rows gs
+  words-long = ap length words-laid ∙ length-map (laidAll 0 gs) wordOf ∙ rows-no-more 0 gs
 
-module _ (gs : List Exp) (order : InOrder 0 gs) (n : ℕ) (count : n ≡ total rows gs) (few : n ≤ 1024) where
-  pub codes-long : (f : RowCode → ℕ) → length (map f (codesAll 0 0 gs)) ≡ n
-  codes-long f =
-      length-map (codesAll 0 0 gs) f ∙ ap length (codes-all 0 0 gs order) ∙ length-map (laidAll 0 gs) (codeOf 0) ∙ rows-no-more 0 gs ∙ sym count
-
-  -- what a list of the rows' numbers has at row r
-  column : (f : RowCode → ℕ) (r : ℕ) → r < n → getD (sets (replicate 1024 0) 0 (map f (codesAll 0 0 gs))) r 0 ≡ f (codeOf 0 (asTable (laidAll 0 gs) r))
-  column f r h =
-      stored-at 1024 (map f (codesAll 0 0 gs)) r (omega (arith, codes-long f)) (omega (arith, codes-long f))
-      ∙ ap (λ (c : List ℕ). getD c r 0) (ap (map f) (codes-all 0 0 gs order) ∙ map-map f (codeOf 0) (laidAll 0 gs))
-      ∙ map-at (λ x. f (codeOf 0 x)) noRow (laidAll 0 gs) r (omega (arith, rows-no-more 0 gs))
-
-  pub row-word : (r : ℕ) → r < n → rowWord (withMonitors noLists 0 0 0 gs .rows-of) r ≡ wordOf (asTable (laidAll 0 gs) r)
-  row-word r h =
-      ap₂ (λ (a b : ℕ). quad a b (getD (withMonitors noLists 0 0 0 gs .rows-of .right) r 0) (getD (withMonitors noLists 0 0 0 gs .rows-of .up) r 0)) (column (λ x. x .kind) r h) (column (λ x. x .left) r h)
-      ∙ ap₂ (quad _ _) (column (λ x. x .right) r h) (column (λ x. x .up) r h)
+  pub row-word : total rows gs ≤ 1024 → (r : ℕ) → r < total rows gs → getD (withMonitors noLists 0 0 0 gs .table) r 0 ≡ wordOf (asTable (laidAll 0 gs) r)
+  row-word few r h =
+      stored-at 1024 (map rowWord (codesAll 0 0 gs)) r (omega (arith, words-long)) (omega (arith, words-long))
+      ∙ ap (λ (c : List ℕ). getD c r 0) words-laid ∙ map-at wordOf noRow (laidAll 0 gs) r (omega (arith, rows-no-more 0 gs))
 
 -- ---- what all rows have
 
@@ -148,10 +121,10 @@ module _ (g : Given) (t : Tick) (n w : ℕ) (few : n ≤ 1024) where
       operator : (c : ℕ) → c < 65536 → w ≡ quad c (x .left) (x .right) (x .up)
           → (part0 w ≡ c) × (part1 w ≡ x .left) × (part2 w ≡ x .right) × (part3 w ≡ x .up)
       operator c h q = (
-        ap part0 q ∙ quad-0 c (x .left) (x .right) (x .up) h left right up,
-        ap part1 q ∙ quad-1 c (x .left) (x .right) (x .up) h left right up,
-        ap part2 q ∙ quad-2 c (x .left) (x .right) (x .up) h left right up,
-        ap part3 q ∙ quad-3 c (x .left) (x .right) (x .up) h left right up,
+        ap part0 q ∙ quad-0 c (x .left) (x .right) (x .up) h,
+        ap part1 q ∙ quad-1 c (x .left) (x .right) (x .up) left,
+        ap part2 q ∙ quad-2 c (x .left) (x .right) (x .up) right,
+        ap part3 q ∙ quad-3 c (x .left) (x .right) (x .up) up,
       )
 
       by : (k : Kind) → w ≡ quad (kindCode k) (leftCode 0 (x .left) k) (x .right) (x .up) → LetterIs (Tested g t) n k
@@ -160,12 +133,12 @@ module _ (g : Given) (t : Tick) (n w : ℕ) (few : n ≤ 1024) where
           let z : 0 + l .number < 65536 = omega arith in
           let s : 0 + l .number ≡ l .number = omega arith in (
             (
-              ap part0 q ∙ quad-0 0 (0 + l .number) (x .right) (x .up) (omega arith) z right up,
-              ap part1 q ∙ quad-1 0 (0 + l .number) (x .right) (x .up) (omega arith) z right up ∙ s,
+              ap part0 q ∙ quad-0 0 (0 + l .number) (x .right) (x .up) (omega arith),
+              ap part1 q ∙ quad-1 0 (0 + l .number) (x .right) (x .up) z ∙ s,
               b,
               m,
             ),
-            ap part3 q ∙ quad-3 0 (0 + l .number) (x .right) (x .up) (omega arith) z right up,
+            ap part3 q ∙ quad-3 0 (0 + l .number) (x .right) (x .up) up,
           )
       by is-seq q h = let (a, b, c, d) = operator 1 (omega arith) q in ((a, b, c, f .left-low, f .right-low), d)
       by is-alt q h = let (a, b, c, d) = operator 2 (omega arith) q in ((a, b, c, f .left-low, f .right-low), d)

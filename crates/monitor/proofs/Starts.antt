@@ -1,46 +1,18 @@
--- Before tick 0: the marks of a newly opened watch are the monitors' starts; and the answers of a walk as what a monitor's way leaves behind. Assumes nothing.
-use mathlib.Core.Path.{_≡_, refl, sym, ap, ap₂, _∙_, subst}
-use mathlib.Core.Bool.{Bool, true, cond}
+-- Before tick 0: the marks of a newly opened watch are the monitors' starts. Assumes nothing.
+use mathlib.Core.Path.{_≡_, refl, sym, ap, ap₂, _∙_}
+use mathlib.Core.Bool.{Bool, cond}
 use mathlib.Core.List.{List, [], _∷_, _++_, map}
-use mathlib.Core.Option.{Option, none, some}
-use mathlib.Core.Logic.{_⊎_, inl, inr, ⊎-elim}
-use Prim.Native.Nat.{ℕ, zero, suc, _+_, _-_, _<_, _≤_}
+use Prim.Native.Nat.{ℕ, zero, suc, _+_, _<_, _≤_}
 use native.Mathlib.Omega.{arith}
-use lib.Dec.{eqb}
 use borrow.Author.Tests.{eq-eqb, ne-eqb}
 use lib.ListN.{length, getD, List·getD-append, take, drop, replicate, length-replicate, getD-replicate}
 use lib.Seq.{sets, sets-eq, length-take-le, getD-take, getD-append-add}
-use Rattle.meaning.specs.Lists.{_∈_, total}
+use Rattle.meaning.specs.Lists.{total}
 use Rattle.meaning.specs.Expression.{Exp, size}
 use Rattle.meaning.specs.Positions.{at-start}
-use Rattle.monitor.specs.Walk.{Told}
-use Rattle.monitor.proofs.Memory.{Ways, OnWay, Memory, Answers, marked-small}
-use Rattle.monitor.proofs.Going.{Goes, markedFrom}
+use Rattle.monitor.proofs.Going.{markedFrom}
 use Rattle.monitor.proofs.Moves.{MarksAll}
 use Rattle.monitor.proofs.Padded.{zeros-at}
-
--- ---- a right answer that marks its letters is what a monitor's way leaves behind
-
-on-some : (l : ℕ) (a : Option (List ℕ)) (ns : List ℕ) → a ≡ some ns → OnWay l a → l ∈ ns
-on-some l none ns e w = absurd w
-on-some l (some ks) ns e w = subst (λ (z : List ℕ). l ∈ z) (cc e) w
-
-some-on : (l : ℕ) (a : Option (List ℕ)) (ns : List ℕ) → a ≡ some ns → l ∈ ns → OnWay l a
-some-on l a ns e i = subst (OnWay l) (sym e) i
-
-pub answers-go : (W : Ways) (n : ℕ) (a : Option (List ℕ)) (M : List ℕ) (x : Told) → Answers (Memory W n) a true M x → Goes (Memory W n) a M x
-answers-go W n a M x h = record {
-  yes = h .says;
-  few = λ ns e l i. marked-small (h .keeps) l (h .all tt l (some-on l a ns e i));
-  marks = λ ns e. record {
-    good = h .keeps;
-    grows = λ l b m. h .marks .kept l m;
-    adds = λ l i. h .all tt l (some-on l a ns e i);
-    only = λ l b m. ⊎-elim inl (λ p. inr (on-some l a ns e (p .1))) (h .marks .only l m);
-  };
-}
-
--- ---- the first marks
 
 none-from : (K : List ℕ) (n l : ℕ) → l + n ≤ 256 → ((k : ℕ) → k < 256 → getD K k 0 ≡ 0) → markedFrom K n l ≡ []
 unfolding markedFrom

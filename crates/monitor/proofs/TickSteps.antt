@@ -78,18 +78,18 @@ written-all g K n i σ τ l e =
 pub letter-stays : (g : Given) (P K : List ℕ) (l : ℕ) (M : List ℕ) → getD K l 0 ≡ 0 → told true M ≡ letterGoes g P K l M
 letter-stays g P K l M z = sym (taken (eqb (getD K l 0) 0) (told true M) _ (eq-eqb (getD K l 0) 0 z))
 
-pub letter-left : (g : Given) (P K : List ℕ) (l r : ℕ) (M : List ℕ) (t : Told) → (getD K l 0 ≡ 0 → ⊥) → r ≡ getD P l 0 → t ≡ leaveM steps g r true M
+pub letter-left : (g : Given) (P K : List ℕ) (l r : ℕ) (M : List ℕ) (t : Told) → (getD K l 0 ≡ 0 → ⊥) → r ≡ getD P l 0 → t ≡ leaveM steps g r M
     → t ≡ letterGoes g P K l M
 letter-left g P K l r M t z d e =
-    e ∙ ap (λ (n : ℕ). leaveM steps g n true M) d ∙ sym (left (eqb (getD K l 0) 0) (told true M) _ (ne-eqb (getD K l 0) 0 z))
+    e ∙ ap (λ (n : ℕ). leaveM steps g n M) d ∙ sym (left (eqb (getD K l 0) 0) (told true M) _ (ne-eqb (getD K l 0) 0 z))
 
 pub start-stays : (g : Given) (O K : List ℕ) (i : ℕ) (M : List ℕ) → getD K (256 + i) 0 ≡ 0 → told true M ≡ startGoes g O K i M
 start-stays g O K i M z = sym (taken (eqb (getD K (256 + i) 0) 0) (told true M) _ (eq-eqb (getD K (256 + i) 0) 0 z))
 
-pub start-asked : (g : Given) (O K : List ℕ) (i r : ℕ) (M : List ℕ) (t : Told) → (getD K (256 + i) 0 ≡ 0 → ⊥) → r ≡ getD O i 0 → t ≡ askM steps g r true M
+pub start-asked : (g : Given) (O K : List ℕ) (i r : ℕ) (M : List ℕ) (t : Told) → (getD K (256 + i) 0 ≡ 0 → ⊥) → r ≡ getD O i 0 → t ≡ askM steps g r M
     → t ≡ startGoes g O K i M
 start-asked g O K i r M t z d e =
-    e ∙ ap (λ (n : ℕ). askM steps g n true M) d ∙ sym (left (eqb (getD K (256 + i) 0) 0) (told true M) _ (ne-eqb (getD K (256 + i) 0) 0 z))
+    e ∙ ap (λ (n : ℕ). askM steps g n M) d ∙ sym (left (eqb (getD K (256 + i) 0) 0) (told true M) _ (ne-eqb (getD K (256 + i) 0) 0 z))
 
 -- one told, and then the rest
 told-yes : (t : Told) (b : Bool) (M : List ℕ) (f : List ℕ → Told) → told b M ≡ t → b ≡ true → andThen t f ≡ f M

@@ -3,16 +3,16 @@ use mathlib.Core.Path.{_≡_, refl, sym, ap, ap₂, _∙_, subst}
 use mathlib.Core.Bool.{Bool, true, false, not, cond}
 use mathlib.Core.List.{List, [], _∷_, _++_}
 use mathlib.Core.Option.{Option, none, some}
-use mathlib.Core.Logic.{_⊎_, ⊎-elim}
+use mathlib.Core.Logic.{⊎-elim}
 use Prim.Native.Nat.{ℕ, zero, suc, _+_, _-_, _<_, _≤_}
 use native.Mathlib.Omega.{arith}
 use lib.Dec.{T, eqb, ltb}
 use borrow.Author.Tests.{le-ltb, lt-ltb, eq-eqb, ne-eqb}
 use lib.ListN.{length, length-drop, getD, List·getD-append, take, drop, replicate, length-replicate}
-use lib.Seq.{sets, sets-eq, length-take-le, getD-take, getD-drop, getD-append-add}
+use lib.Seq.{sets-eq, length-take-le, getD-take, getD-drop, getD-append-add}
 use Rattle.meaning.specs.Lists.{_∈_, total, member}
 use Rattle.meaning.specs.Expression.{Exp, size, Ordered}
-use Rattle.meaning.specs.Fit.{Tick, bad}
+use Rattle.meaning.specs.Fit.{Tick}
 use Rattle.meaning.specs.Positions.{Positions, go, Ticked, fine, wrong, goOn, goEach, keptEach, writeEach}
 use Rattle.meaning.proofs.ListLaws.{here, there, no-∈, clash}
 use Rattle.meaning.proofs.Numbering.{between}
@@ -20,8 +20,8 @@ use Rattle.meaning.proofs.Sets.{go-inside}
 use Rattle.monitor.specs.Letters.{Given}
 use Rattle.monitor.specs.Ticks.{Layout, marksAfter, writeMarked, Reached, Move, move, emptyMemory, moveBy, monitorsGo, stepWithin}
 use Rattle.monitor.proofs.Padded.{zeros-at}
-use Rattle.monitor.proofs.Memory.{Marked}
-use Rattle.monitor.proofs.Going.{Exactly, AllGo, Went, monitors-go, spread}
+use Rattle.monitor.proofs.Memory.{empty-unmarked, Exactly}
+use Rattle.monitor.proofs.Going.{AllGo, Went, monitors-go, spread}
 use Rattle.monitor.proofs.Moves.{AllInside, all-marked, to-member, from-member, MarksAll, marks-all, AllWriteAs, writes-all}
 
 -- ---- the letters met are each monitor's own
@@ -88,9 +88,6 @@ pub record Steps (ms : List Exp) (t : Tick) (σ : List ℕ) (pad : List ℕ → 
 module _ (Good : List ℕ → Type 0) (long : (M : List ℕ) → Good M → length M ≡ 2304) (bits : (M : List ℕ) → Good M → (l : ℕ) → l < 256 → getD M (2048 + l) 0 ≤ 1)
     (empty : Good emptyMemory) (g : Given) (t : Tick) (y : Layout) (K : List ℕ) (ms : List Exp) (ordered : (m : Exp) → m ∈ ms → Ordered 0 m)
     (monitors : y .monitors ≡ length ms) (few-monitors : length ms ≤ 32) (letters : y .letters ≡ total size ms) (few-letters : total size ms ≤ 256) where
-  none-marked : (l : ℕ) → Marked emptyMemory l → ⊥
-  none-marked l m = omega (arith, m, zeros-at 2304 (2048 + l))
-
   -- the marks in a memory, letter by letter
   marked-if : (M ks : List ℕ) → Exactly Good emptyMemory ks M → (k : ℕ) → k < total size ms
       → eqb (getD (marksAfter (total size ms) M) k 0) 0 ≡ not (member k ks)
@@ -101,7 +98,7 @@ module _ (Good : List ℕ → Type 0) (long : (M : List ℕ) → Good M → leng
       by false e =
           eq-eqb (getD M (2048 + k) 0) 0
           (zero-or (getD M (2048 + k) 0) (bits M (x .good) k (omega (arith, c, few-letters)))
-          (λ p. ⊎-elim (λ q. none-marked k q) (λ q. subst T e (to-member k ks q)) (x .only k (omega (arith, c, few-letters)) p)))
+          (λ p. ⊎-elim (empty-unmarked k) (λ q. subst T e (to-member k ks q)) (x .only k p)))
 
   module _ (xs : List Positions) (σ : List ℕ) (pad : List ℕ → List ℕ) (stores : ℕ) (marked : MarksAll K 0 0 ms xs) (long-values : length σ ≡ stores) (padded : g .values ≡ pad σ)
       (go-all : AllGo Good g t y K 0 0 ms xs) (writes : (Q : List ℕ) → AllWriteAs g t Q pad stores 0 ms) where
@@ -121,7 +118,7 @@ module _ (Good : List ℕ → Type 0) (long : (M : List ℕ) → Good M → leng
         → (moveBy g y K z .monitor ≡ length ms) × MarksAll (moveBy g y K z .marks) 0 0 ms (keptEach ms nss) × (moveBy g y K z .values ≡ pad (writeEach t ms nss σ))
         × (length (writeEach t ms nss σ) ≡ stores)
     unfolding Went
-    good-step z nss inside (p, x, q) =
+    good-step z nss inside (p, x) =
         let b : ltb (z .monitor) (y .monitors) ≡ false = le-ltb (z .monitor) (y .monitors) (omega (arith, p, monitors)) in
         let n = total size ms in
         let Q = marksAfter n (z .memory) in

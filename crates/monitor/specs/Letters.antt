@@ -6,7 +6,7 @@ use lib.Dec.{eqb}
 use lib.Bits.{bitAnd}
 use lib.ListN.{getD, set}
 use Rattle.meaning.specs.Masks.{passes}
-use Rattle.rules.specs.Words.{part0, part1, part2}
+use Rattle.words.specs.Words.{part0, part1, part2}
 
 -- What a tick is judged by: the rows, each in one word, and the letters' numbers, as a watch has them; the store values before the tick, and its word.
 pub record Given : Type 0 where

@@ -32,7 +32,7 @@ within y = layout (y .places) (y .own) (y .firsts) (min (y .monitors) 32) (min (
 
 -- letter l is left, if it is marked
 abbrev pub letterGoes : Given → (places marks : List ℕ) → (l : ℕ) → List ℕ → Told
-letterGoes g places marks l M = cond (eqb (getD marks l 0) 0) (told true M) (leaveM steps g (getD places l 0) true M)
+letterGoes g places marks l M = cond (eqb (getD marks l 0) 0) (told true M) (leaveM steps g (getD places l 0) M)
 
 -- n letters from l on
 unfoldable pub lettersGo : Given → (places marks : List ℕ) → (n l : ℕ) → List ℕ → Told
@@ -41,7 +41,7 @@ lettersGo g places marks (suc n) l M = andThen (letterGoes g places marks l M) (
 
 -- monitor i is asked, if it is at its start
 abbrev pub startGoes : Given → (own marks : List ℕ) → (i : ℕ) → List ℕ → Told
-startGoes g own marks i M = cond (eqb (getD marks (256 + i) 0) 0) (told true M) (askM steps g (getD own i 0) true M)
+startGoes g own marks i M = cond (eqb (getD marks (256 + i) 0) 0) (told true M) (askM steps g (getD own i 0) M)
 
 -- its letters are those from its own first up to the next monitor's
 abbrev pub lettersEnd : (firsts : List ℕ) → (monitors letters i : ℕ) → ℕ

@@ -1,7 +1,7 @@
 // A letter at a tick: whether it is met, and what it writes (specs/Letters.antt).
-use super::parts::part0;
-use super::parts::part1;
-use super::parts::part2;
+use words::part0;
+use words::part1;
+use words::part2;
 ghost use mathlib.Core.Path.{_≡_};
 ghost use mathlib.Core.List.{List};
 ghost use Prim.Native.Nat.{ℕ, _<_};

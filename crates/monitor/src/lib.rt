@@ -1,7 +1,6 @@
 // The watch at work: `tick` takes a watch and a word to the answer and the new watch; `step` is one tick on lent tables.
 // What they answer is said for every watch, also one that no call ever gave (specs/Calls.antt, specs/Ticks.antt).
 mod letters;
-mod parts;
 mod positions;
 mod walk;
 

@@ -1,5 +1,4 @@
 // Every active position goes on, or a monitor no longer fits (specs/Ticks.antt).
-use super::parts::wide;
 use super::walk::ask;
 use super::walk::leave;
 ghost use mathlib.Core.Path.{_≡_};
@@ -19,6 +18,12 @@ pub(crate) fn least(a: usize, b: usize) -> usize
         return a;
     }
     b
+}
+
+fn wide(x: u16) -> usize
+    ensures { λ r. ⌜ r ≡ x ⌝ }
+{
+    x as usize
 }
 
 // A letter is left, if it is marked.
@@ -44,7 +49,6 @@ fn letter_goes(
     leave(
         wide(places[letter]),
         STEPS,
-        true,
         table,
         memory,
         word,
@@ -119,7 +123,6 @@ fn start_goes(
     ask(
         wide(own[monitor]),
         STEPS,
-        true,
         table,
         memory,
         word,

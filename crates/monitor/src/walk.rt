@@ -1,15 +1,16 @@
 // The walk over rows: being asked and being left send each other on until letters are reached, with answers remembered for one
-// tick (specs/Walk.antt). `steps` falls at each call.
+// tick (specs/Walk.antt). `steps` falls at each call. Leaving a row is always the last way to go on that is tried, so a letter
+// that is marked stays marked unless the tick is bad.
 use super::letters::letter_met;
-use super::parts::part0;
-use super::parts::part1;
-use super::parts::part2;
-use super::parts::part3;
+use words::part0;
+use words::part1;
+use words::part2;
+use words::part3;
 ghost use mathlib.Core.Path.{_≡_};
 ghost use mathlib.Core.List.{List};
-ghost use Prim.Native.Nat.{ℕ, _<_};
+ghost use Prim.Native.Nat.{ℕ};
 ghost use Rattle.monitor.specs.Letters.{given};
-ghost use Rattle.monitor.specs.Walk.{told, settled, answerCode, askLetter, askOn, both, leaveTo, leaveOn, askM, leaveM};
+ghost use Rattle.monitor.specs.Walk.{came, told, enterLetter, enterSecond, enterOn, enterM, both, leaveTo, leaveOn, askM, leaveM};
 
 // The kinds of rows.
 const LETTER: usize = 0;
@@ -22,43 +23,23 @@ const STAR: usize = 3;
 
 const PIPE: usize = 4;
 
-// What is remembered of an answer: no; yes; yes, and the letters of that way are marked.
+// What entering a row came to: no letter is met; none, and the row can be left at once; one is met, and marked.
+const BLOCKED: u8 = 1;
+
+const PASSED: u8 = 2;
+
+const MET: u8 = 3;
+
+// What is remembered of leaving a row.
 const NO: u8 = 1;
 
 const YES: u8 = 2;
 
-const MARKED: u8 = 3;
+// ---- entering
 
-// Whether what is remembered is a yes that needs no more marks.
-fn settled(known: u8, sure: bool) -> bool
-    ensures { λ r. ⌜ r ≡ settled known sure ⌝ }
-{
-    if known == MARKED {
-        return true;
-    }
-    if sure {
-        return false;
-    }
-    known == YES
-}
-
-// What to remember of an answer.
-fn answer_code(yes: bool, sure: bool) -> u8
-    ensures { λ r. ⌜ r ≡ answerCode yes sure ⌝ }
-{
-    if !yes {
-        return NO;
-    }
-    if sure {
-        return MARKED;
-    }
-    YES
-}
-
-// A letter is asked: whether it is met. Marks it, if that is sure to be wanted.
-fn ask_letter(
+// A letter is met, and marked, or not.
+fn enter_letter(
     letter: usize,
-    sure: bool,
     memory: &mut [u8; 2304],
     word: u64,
     look: &[u64; 256],
@@ -66,29 +47,23 @@ fn ask_letter(
     links: &[u64; 1024],
     numbers: &[u64; 1024],
     values: &[u64; 16],
-) -> bool
-    ensures { λ r. ⌜ ((T : List ℕ) → told r (now (memory .exit)) ≡ askLetter (given T (now (look .entry)) (now (want .entry)) (now (links .entry)) (now (numbers .entry)) (now (values .entry)) word) letter sure (now (memory .entry))) ⌝ }
+) -> u8
+    ensures { λ r. ⌜ ((T : List ℕ) → came r (now (memory .exit)) ≡ enterLetter (given T (now (look .entry)) (now (want .entry)) (now (links .entry)) (now (numbers .entry)) (now (values .entry)) word) letter (now (memory .entry))) ⌝ }
 {
     if 256 <= letter {
-        return false;
+        return BLOCKED;
     }
     if !letter_met(letter, word, look, want, links, numbers, values) {
-        return false;
-    }
-    if !sure {
-        return true;
+        return BLOCKED;
     }
     memory[2048 + letter] = 1;
-    true
+    MET
 }
 
-// ---- asking
-
-// A row is asked: whether there is a way on from it that the tick meets.
-pub(crate) fn ask(
+// A row is entered: whether the tick meets a letter that can come first in it.
+fn enter(
     row: usize,
     steps: usize,
-    sure: bool,
     table: &[u64; 1024],
     memory: &mut [u8; 2304],
     word: u64,
@@ -97,27 +72,22 @@ pub(crate) fn ask(
     links: &[u64; 1024],
     numbers: &[u64; 1024],
     values: &[u64; 16],
-) -> bool
-    ensures { λ r. ⌜ told r (now (memory .exit)) ≡ askM steps (given (now (table .entry)) (now (look .entry)) (now (want .entry)) (now (links .entry)) (now (numbers .entry)) (now (values .entry)) word) row sure (now (memory .entry)) ⌝ }
+) -> u8
+    ensures { λ r. ⌜ came r (now (memory .exit)) ≡ enterM steps (given (now (table .entry)) (now (look .entry)) (now (want .entry)) (now (links .entry)) (now (numbers .entry)) (now (values .entry)) word) row (now (memory .entry)) ⌝ }
 {
     if steps == 0 {
-        return false;
+        return BLOCKED;
     }
     if 1024 <= row {
-        return false;
+        return BLOCKED;
     }
     let known = memory[row];
-    if known == NO {
-        return false;
+    if known != 0 {
+        return known;
     }
-    if settled(known, sure) {
-        return true;
-    }
-    let yes = ask_on(
+    let code = enter_on(
         table[row],
-        row,
         steps - 1,
-        sure,
         table,
         memory,
         word,
@@ -127,16 +97,14 @@ pub(crate) fn ask(
         numbers,
         values,
     );
-    memory[row] = answer_code(yes, sure);
-    yes
+    memory[row] = code;
+    code
 }
 
 // By the row's word.
-fn ask_on(
+fn enter_on(
     entry: u64,
-    row: usize,
     steps: usize,
-    sure: bool,
     table: &[u64; 1024],
     memory: &mut [u8; 2304],
     word: u64,
@@ -145,14 +113,12 @@ fn ask_on(
     links: &[u64; 1024],
     numbers: &[u64; 1024],
     values: &[u64; 16],
-) -> bool
-    ensures { λ r. ⌜ told r (now (memory .exit)) ≡ askOn (given (now (table .entry)) (now (look .entry)) (now (want .entry)) (now (links .entry)) (now (numbers .entry)) (now (values .entry)) word) (askM steps (given (now (table .entry)) (now (look .entry)) (now (want .entry)) (now (links .entry)) (now (numbers .entry)) (now (values .entry)) word)) (leaveM steps (given (now (table .entry)) (now (look .entry)) (now (want .entry)) (now (links .entry)) (now (numbers .entry)) (now (values .entry)) word)) entry row sure (now (memory .entry)) ⌝ }
+) -> u8
+    ensures { λ r. ⌜ came r (now (memory .exit)) ≡ enterOn (given (now (table .entry)) (now (look .entry)) (now (want .entry)) (now (links .entry)) (now (numbers .entry)) (now (values .entry)) word) (enterM steps (given (now (table .entry)) (now (look .entry)) (now (want .entry)) (now (links .entry)) (now (numbers .entry)) (now (values .entry)) word)) entry (now (memory .entry)) ⌝ }
 {
-    let kind = part0(entry);
-    if kind == LETTER {
-        return ask_letter(
+    if part0(entry) == LETTER {
+        return enter_letter(
             part1(entry),
-            sure,
             memory,
             word,
             look,
@@ -162,70 +128,22 @@ fn ask_on(
             values,
         );
     }
-    if kind == STAR {
-        if leave(
-            row,
-            steps,
-            sure,
-            table,
-            memory,
-            word,
-            look,
-            want,
-            links,
-            numbers,
-            values,
-        ) {
-            return true;
-        }
-        return ask(
-            part1(entry),
-            steps,
-            sure,
-            table,
-            memory,
-            word,
-            look,
-            want,
-            links,
-            numbers,
-            values,
-        );
-    }
-    if kind == ALTERNATIVE {
-        if ask(
-            part1(entry),
-            steps,
-            sure,
-            table,
-            memory,
-            word,
-            look,
-            want,
-            links,
-            numbers,
-            values,
-        ) {
-            return true;
-        }
-        return ask(
-            part2(entry),
-            steps,
-            sure,
-            table,
-            memory,
-            word,
-            look,
-            want,
-            links,
-            numbers,
-            values,
-        );
-    }
-    ask(
+    let first = enter(
         part1(entry),
         steps,
-        sure,
+        table,
+        memory,
+        word,
+        look,
+        want,
+        links,
+        numbers,
+        values,
+    );
+    enter_second(
+        entry,
+        first,
+        steps,
         table,
         memory,
         word,
@@ -237,13 +155,11 @@ fn ask_on(
     )
 }
 
-// ---- leaving
-
-// A row is left: whether there is a way on behind it that the tick meets.
-pub(crate) fn leave(
-    row: usize,
+// By what the left operand came to.
+fn enter_second(
+    entry: u64,
+    first: u8,
     steps: usize,
-    sure: bool,
     table: &[u64; 1024],
     memory: &mut [u8; 2304],
     word: u64,
@@ -252,27 +168,42 @@ pub(crate) fn leave(
     links: &[u64; 1024],
     numbers: &[u64; 1024],
     values: &[u64; 16],
-) -> bool
-    ensures { λ r. ⌜ told r (now (memory .exit)) ≡ leaveM steps (given (now (table .entry)) (now (look .entry)) (now (want .entry)) (now (links .entry)) (now (numbers .entry)) (now (values .entry)) word) row sure (now (memory .entry)) ⌝ }
+) -> u8
+    ensures { λ r. ⌜ came r (now (memory .exit)) ≡ enterSecond (enterM steps (given (now (table .entry)) (now (look .entry)) (now (want .entry)) (now (links .entry)) (now (numbers .entry)) (now (values .entry)) word)) entry (came first (now (memory .entry))) ⌝ }
 {
-    if steps == 0 {
-        return false;
+    let kind = part0(entry);
+    if kind == SEQUENCE {
+        if first != PASSED {
+            return first;
+        }
+        return enter(
+            part2(entry),
+            steps,
+            table,
+            memory,
+            word,
+            look,
+            want,
+            links,
+            numbers,
+            values,
+        );
     }
-    if 1024 <= row {
-        return false;
+    if kind == STAR {
+        if first == MET {
+            return MET;
+        }
+        return PASSED;
     }
-    let known = memory[1024 + row];
-    if known == NO {
-        return false;
+    if kind != ALTERNATIVE {
+        return first;
     }
-    if settled(known, sure) {
-        return true;
+    if first == MET {
+        return first;
     }
-    let yes = leave_on(
-        part3(table[row]),
-        row,
-        steps - 1,
-        sure,
+    let second = enter(
+        part2(entry),
+        steps,
         table,
         memory,
         word,
@@ -282,16 +213,21 @@ pub(crate) fn leave(
         numbers,
         values,
     );
-    memory[1024 + row] = answer_code(yes, sure);
-    yes
+    if second == MET {
+        return MET;
+    }
+    if first == PASSED {
+        return PASSED;
+    }
+    second
 }
 
-// To the row above; a monitor's own row is asked again.
-fn leave_on(
-    above: usize,
+// ---- asking and leaving
+
+// A row is asked: whether there is a way on from it that the tick meets. It is entered, and left where it can be left at once.
+pub(crate) fn ask(
     row: usize,
     steps: usize,
-    sure: bool,
     table: &[u64; 1024],
     memory: &mut [u8; 2304],
     word: u64,
@@ -301,13 +237,108 @@ fn leave_on(
     numbers: &[u64; 1024],
     values: &[u64; 16],
 ) -> bool
-    ensures { λ r. ⌜ told r (now (memory .exit)) ≡ leaveOn (given (now (table .entry)) (now (look .entry)) (now (want .entry)) (now (links .entry)) (now (numbers .entry)) (now (values .entry)) word) (askM steps (given (now (table .entry)) (now (look .entry)) (now (want .entry)) (now (links .entry)) (now (numbers .entry)) (now (values .entry)) word)) (leaveM steps (given (now (table .entry)) (now (look .entry)) (now (want .entry)) (now (links .entry)) (now (numbers .entry)) (now (values .entry)) word)) above row sure (now (memory .entry)) ⌝ }
+    ensures { λ r. ⌜ told r (now (memory .exit)) ≡ askM steps (given (now (table .entry)) (now (look .entry)) (now (want .entry)) (now (links .entry)) (now (numbers .entry)) (now (values .entry)) word) row (now (memory .entry)) ⌝ }
+{
+    if steps == 0 {
+        return false;
+    }
+    let code = enter(
+        row,
+        steps - 1,
+        table,
+        memory,
+        word,
+        look,
+        want,
+        links,
+        numbers,
+        values,
+    );
+    if code == MET {
+        return true;
+    }
+    if code != PASSED {
+        return false;
+    }
+    leave(
+        row,
+        steps - 1,
+        table,
+        memory,
+        word,
+        look,
+        want,
+        links,
+        numbers,
+        values,
+    )
+}
+
+// A row is left: whether there is a way on behind it that the tick meets.
+pub(crate) fn leave(
+    row: usize,
+    steps: usize,
+    table: &[u64; 1024],
+    memory: &mut [u8; 2304],
+    word: u64,
+    look: &[u64; 256],
+    want: &[u64; 256],
+    links: &[u64; 1024],
+    numbers: &[u64; 1024],
+    values: &[u64; 16],
+) -> bool
+    ensures { λ r. ⌜ told r (now (memory .exit)) ≡ leaveM steps (given (now (table .entry)) (now (look .entry)) (now (want .entry)) (now (links .entry)) (now (numbers .entry)) (now (values .entry)) word) row (now (memory .entry)) ⌝ }
+{
+    if steps == 0 {
+        return false;
+    }
+    if 1024 <= row {
+        return false;
+    }
+    let known = memory[1024 + row];
+    if known != 0 {
+        return known == YES;
+    }
+    if !leave_on(
+        part3(table[row]),
+        row,
+        steps - 1,
+        table,
+        memory,
+        word,
+        look,
+        want,
+        links,
+        numbers,
+        values,
+    ) {
+        memory[1024 + row] = NO;
+        return false;
+    }
+    memory[1024 + row] = YES;
+    true
+}
+
+// To the row above; a monitor's own row is asked again.
+fn leave_on(
+    above: usize,
+    row: usize,
+    steps: usize,
+    table: &[u64; 1024],
+    memory: &mut [u8; 2304],
+    word: u64,
+    look: &[u64; 256],
+    want: &[u64; 256],
+    links: &[u64; 1024],
+    numbers: &[u64; 1024],
+    values: &[u64; 16],
+) -> bool
+    ensures { λ r. ⌜ told r (now (memory .exit)) ≡ leaveOn (given (now (table .entry)) (now (look .entry)) (now (want .entry)) (now (links .entry)) (now (numbers .entry)) (now (values .entry)) word) (askM steps (given (now (table .entry)) (now (look .entry)) (now (want .entry)) (now (links .entry)) (now (numbers .entry)) (now (values .entry)) word)) (leaveM steps (given (now (table .entry)) (now (look .entry)) (now (want .entry)) (now (links .entry)) (now (numbers .entry)) (now (values .entry)) word)) above row (now (memory .entry)) ⌝ }
 {
     if above == row {
         return ask(
             row,
             steps,
-            sure,
             table,
             memory,
             word,
@@ -326,7 +357,6 @@ fn leave_on(
         above,
         row,
         steps,
-        sure,
         table,
         memory,
         word,
@@ -344,7 +374,6 @@ fn leave_to(
     above: usize,
     row: usize,
     steps: usize,
-    sure: bool,
     table: &[u64; 1024],
     memory: &mut [u8; 2304],
     word: u64,
@@ -354,7 +383,7 @@ fn leave_to(
     numbers: &[u64; 1024],
     values: &[u64; 16],
 ) -> bool
-    ensures { λ r. ⌜ told r (now (memory .exit)) ≡ leaveTo (askM steps (given (now (table .entry)) (now (look .entry)) (now (want .entry)) (now (links .entry)) (now (numbers .entry)) (now (values .entry)) word)) (leaveM steps (given (now (table .entry)) (now (look .entry)) (now (want .entry)) (now (links .entry)) (now (numbers .entry)) (now (values .entry)) word)) entry above row sure (now (memory .entry)) ⌝ }
+    ensures { λ r. ⌜ told r (now (memory .exit)) ≡ leaveTo (askM steps (given (now (table .entry)) (now (look .entry)) (now (want .entry)) (now (links .entry)) (now (numbers .entry)) (now (values .entry)) word)) (leaveM steps (given (now (table .entry)) (now (look .entry)) (now (want .entry)) (now (links .entry)) (now (numbers .entry)) (now (values .entry)) word)) entry above row (now (memory .entry)) ⌝ }
 {
     let kind = part0(entry);
     if kind == SEQUENCE {
@@ -362,7 +391,6 @@ fn leave_to(
             return ask(
                 part2(entry),
                 steps,
-                sure,
                 table,
                 memory,
                 word,
@@ -376,7 +404,6 @@ fn leave_to(
         return leave(
             above,
             steps,
-            sure,
             table,
             memory,
             word,
@@ -391,7 +418,6 @@ fn leave_to(
         return leave(
             above,
             steps,
-            sure,
             table,
             memory,
             word,
@@ -406,7 +432,6 @@ fn leave_to(
         return ask(
             above,
             steps,
-            sure,
             table,
             memory,
             word,
@@ -420,31 +445,29 @@ fn leave_to(
     if kind != PIPE {
         return false;
     }
-    if part1(entry) == row {
-        return both(
-            above,
-            part2(entry),
-            steps,
-            sure,
-            table,
-            memory,
-            word,
-            look,
-            want,
-            links,
-            numbers,
-            values,
-        );
+    if part1(entry) != row {
+        return true;
     }
-    true
+    both(
+        above,
+        part2(entry),
+        steps,
+        table,
+        memory,
+        word,
+        look,
+        want,
+        links,
+        numbers,
+        values,
+    )
 }
 
-// The left operand of an `@` has ended: the `@` is left and its thread is asked. Nothing is marked unless both say yes.
+// An `@` is left, and its thread asked.
 fn both(
     above: usize,
     thread: usize,
     steps: usize,
-    sure: bool,
     table: &[u64; 1024],
     memory: &mut [u8; 2304],
     word: u64,
@@ -454,27 +477,11 @@ fn both(
     numbers: &[u64; 1024],
     values: &[u64; 16],
 ) -> bool
-    ensures { λ r. ⌜ told r (now (memory .exit)) ≡ both (askM steps (given (now (table .entry)) (now (look .entry)) (now (want .entry)) (now (links .entry)) (now (numbers .entry)) (now (values .entry)) word)) (leaveM steps (given (now (table .entry)) (now (look .entry)) (now (want .entry)) (now (links .entry)) (now (numbers .entry)) (now (values .entry)) word)) above thread sure (now (memory .entry)) ⌝ }
+    ensures { λ r. ⌜ told r (now (memory .exit)) ≡ both (askM steps (given (now (table .entry)) (now (look .entry)) (now (want .entry)) (now (links .entry)) (now (numbers .entry)) (now (values .entry)) word)) (leaveM steps (given (now (table .entry)) (now (look .entry)) (now (want .entry)) (now (links .entry)) (now (numbers .entry)) (now (values .entry)) word)) above thread (now (memory .entry)) ⌝ }
 {
-    if !ask(
-        thread,
-        steps,
-        false,
-        table,
-        memory,
-        word,
-        look,
-        want,
-        links,
-        numbers,
-        values,
-    ) {
-        return false;
-    }
     if !leave(
         above,
         steps,
-        sure,
         table,
         memory,
         word,
@@ -485,14 +492,10 @@ fn both(
         values,
     ) {
         return false;
-    }
-    if !sure {
-        return true;
     }
     ask(
         thread,
         steps,
-        true,
         table,
         memory,
         word,

@@ -14,7 +14,7 @@ use Rattle.meaning.specs.Reading.{Program}
 use Rattle.meaning.proofs.Numbering.{renumbered-size, renumbered-rows}
 use Rattle.meaning.proofs.RowCount.{rows-bound}
 use Rattle.rules.specs.Reads.{Unless, fine, faulted}
-use Rattle.rules.specs.Laying.{rowCodes, RowLists, withRows, LetterLists, withLetters, Stored}
+use Rattle.rules.specs.Laying.{rowCodes, withRows, LetterLists, withLetters, Stored}
 use Rattle.rules.specs.Monitors.{MonitorsAre, SomeMonitors, FewLetters, FirstLong, MonitorAt, SomeMonitor, codesAll, startsBy, Lists, lists, withMonitors, AllStored, OpenedBy, byShapes, byRules}
 use Rattle.rules.specs.declared.opening.Opening.{Opening}
 use Rattle.rules.proofs.Stepping.{well, ill}
@@ -23,18 +23,18 @@ use Rattle.rules.proofs.Placing.{codes-long, letters-long}
 use Rattle.rules.proofs.LongRun.{Ahead, Next, all-ahead, next-ahead, none-ahead}
 use Rattle.rules.proofs.OneMonitor.{OpensAs}
 
-same-lists : {R R′ : RowLists} {L L′ : LetterLists} {S S′ F F′ : List ℕ} → R ≡ R′ → L ≡ L′ → S ≡ S′ → F ≡ F′ → lists R L S F ≡ lists R′ L′ S′ F′
-same-lists {R} {R′} {L} {L′} {S} {S′} {F} {F′} p q r s = ap₂ (λ (x : RowLists) (y : LetterLists). lists x y S F) p q ∙ ap₂ (λ (x y : List ℕ). lists R′ L′ x y) r s
+same-lists : {R R′ : List ℕ} {L L′ : LetterLists} {S S′ F F′ : List ℕ} → R ≡ R′ → L ≡ L′ → S ≡ S′ → F ≡ F′ → lists R L S F ≡ lists R′ L′ S′ F′
+same-lists {R} {R′} {L} {L′} {S} {S′} {F} {F′} p q r s = ap₂ (λ (x : List ℕ) (y : LetterLists). lists x y S F) p q ∙ ap₂ (λ (x y : List ℕ). lists R′ L′ x y) r s
 
 -- a monitor is stored, and then those behind it
-one-more : (R R′ : RowLists) (L L′ : LetterLists) (S F : List ℕ) (i row index r l : ℕ) (m : Exp) (ms : List Exp) → Stored row row index m R R′ L L′ r l
+one-more : (R R′ : List ℕ) (L L′ : LetterLists) (S F : List ℕ) (i row index r l : ℕ) (m : Exp) (ms : List Exp) → Stored row row index m R R′ L L′ r l
     → withMonitors (lists R′ L′ (set S i row) (set F i index)) (i + 1) r l ms ≡ withMonitors (lists R L S F) i row index (m ∷ ms)
 unfolding codesAll startsBy
 one-more R R′ L L′ S F i row index r l m ms s =
     let a = s .next-row in
     let b = s .next-letter in
     rw (a, b, add-one i) (same-lists
-    (ap (λ (A : RowLists). withRows A (row + rows m) (codesAll (row + rows m) (index + size m) ms)) (s .rows-stored)
+    (ap (λ (A : List ℕ). withRows A (row + rows m) (codesAll (row + rows m) (index + size m) ms)) (s .rows-stored)
     ∙ rows-behind R row (rowCodes row row index m) (row + rows m) (codesAll (row + rows m) (index + size m) ms) (omega (arith, codes-long row row index m)))
     (ap (λ (A : LetterLists). withLetters A (index + size m) (each ms letters)) (s .letters-stored)
     ∙ letters-behind L index (letters m) (index + size m) (each ms letters) (omega (arith, letters-long m)))
@@ -69,7 +69,7 @@ module _ (P M : List ℕ) (count : ℕ) (A₀ : Lists) where
     low = omega arith;
   }
 
-  module _ (R : RowLists) (L : LetterLists) (S F : List ℕ) (i row index : ℕ) (a : AllGoing P M count A₀ (lists R L S F) i row index) where
+  module _ (R : List ℕ) (L : LetterLists) (S F : List ℕ) (i row index : ℕ) (a : AllGoing P M count A₀ (lists R L S F) i row index) where
     -- row and letter numbers are small
     pub small : FewLetters P M count → (row ≤ 1024) × (index ≤ 256)
     small (c, ms, w, b) = let s = a c ms w b in (omega (arith, s .low, s .letters-sum), omega (arith, s .letters-sum))
@@ -112,7 +112,7 @@ module _ (P M : List ℕ) (count : ℕ) (A₀ : Lists) where
           a c ms w b .same o ∙ ap (λ (y : List Exp). misshapen i (map (renumbered 0) y) o) (n .split)
           ∙ ap (λ (y : Shape). byShape i y (misshapen (suc i) (map (renumbered 0) (n .others)) o)) e
 
-      module _ (R′ : RowLists) (L′ : LetterLists) (f letter r next : ℕ) (d : OpensAs P (getD M i 0) row index R R′ L L′ f letter r next) where
+      module _ (R′ : List ℕ) (L′ : LetterLists) (f letter r next : ℕ) (d : OpensAs P (getD M i 0) row index R R′ L L′ f letter r next) where
         pub going-refused : (f ≡ 0 → ⊥) → (A : Lists) → AllOpened P M count A₀ A (record { fault = f; monitor = i; letter = letter; rows = 0; letters = 0 })
         unfolding OpenedBy
         going-refused z A c ms w b =

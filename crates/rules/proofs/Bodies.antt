@@ -14,7 +14,7 @@ use Rattle.rules.specs.declared.literals.Condition.{Condition}
 use Rattle.rules.specs.declared.literals.Literals.{Literals}
 use Rattle.rules.specs.declared.expression.Parsed.{Parsed}
 use Rattle.rules.specs.declared.parts.Part.{Part}
-use Rattle.rules.specs.Words.{quad, part0, part1, part2, part3}
+use Rattle.words.specs.Words.{quad, part0, part1, part2, part3}
 use Rattle.rules.specs.Cells.{at, flag, Links, testsOn, Denotes, Means}
 use Rattle.rules.specs.Reads.{readFrom, Unless, fine, faulted, placed}
 use Rattle.rules.specs.Conditions.{Extends, ConditionIs, Given, Added, Refuses, Adds, AllAdded}
@@ -24,7 +24,7 @@ use Rattle.rules.specs.Expressions.{Named, Closes, Outer, behindWhole, W
 use Rattle.rules.specs.Defined.{Begins, Defines, HeadAt, CellWritten}
 use Rattle.rules.proofs.Stepping.{well, ill, no}
 use Rattle.rules.proofs.OnNumber.{on-token}
-use Rattle.rules.proofs.Numbers.{quad-0, quad-1, quad-2, quad-3}
+use Rattle.words.proofs.Quads.{quad-0, quad-1, quad-2, quad-3}
 use Rattle.rules.proofs.Put.{put-extends, put-at, extends-then}
 use Rattle.rules.proofs.Kept.{cells-kept, tests-kept}
 use Rattle.rules.proofs.TaskLaws.{room-after, spent-then}
@@ -193,16 +193,16 @@ module _ (P : List ℕ) (c last place size : ℕ) (small : length P ≤ 65535) (
   -- the first word
   headed : (Q : List ℕ) (kind : ℕ) → kind < 65536 → at Q c ≡ quad kind last place size → (part0 (at Q c) ≡ kind) × HeadAt Q c last place size
   headed Q kind k e = (
-    ap part0 e ∙ quad-0 kind last place size k l p s,
+    ap part0 e ∙ quad-0 kind last place size k,
     record {
-      back = ap part1 e ∙ quad-1 kind last place size k l p s;
-      from = ap part2 e ∙ quad-2 kind last place size k l p s;
-      long = ap part3 e ∙ quad-3 kind last place size k l p s;
+      back = ap part1 e ∙ quad-1 kind last place size l;
+      from = ap part2 e ∙ quad-2 kind last place size p;
+      long = ap part3 e ∙ quad-3 kind last place size s;
     },
   )
 
   module _ (q : Condition) (room : c + 4 ≤ length P) (some : (ls : List Literal) × ConditionIs P c q ls) (n : ℕ) (is : n ≡ flag (q .agrees)) where
-    pub define-small : (n < 65536) × (q .tests < 65536) × (q .link < 65536)
+    define-small : (n < 65536) × (q .tests < 65536) × (q .link < 65536)
     define-small = let f = flag-small (q .agrees) in let (ls, k) = some in (omega arith, omega (arith, k .tests .count), omega (arith, k .tests .low))
 
     -- its four words
@@ -212,7 +212,7 @@ module _ (P : List ℕ) (c last place size : ℕ) (small : length P ≤ 65535) (
     define-cell Q x first body looks wants =
         let (kind, head) = headed Q 2 (omega arith) first in
         let (a, b, d) = define-small in
-        let link = ap part2 body ∙ quad-2 n (q .tests) (q .link) 0 a b d (omega arith) in
+        let link = ap part2 body ∙ quad-2 n (q .tests) (q .link) 0 d in
         record {
           extends = x;
           head = head;
@@ -221,8 +221,8 @@ module _ (P : List ℕ) (c last place size : ℕ) (small : length P ≤ 65535) (
               record {
                 kind = kind;
                 used = omega arith;
-                agrees = ap part0 body ∙ quad-0 n (q .tests) (q .link) 0 a b d (omega arith) ∙ is ∙ ap flag (k .masks .agrees);
-                tests = ap part1 body ∙ quad-1 n (q .tests) (q .link) 0 a b d (omega arith) ∙ k .tests .count;
+                agrees = ap part0 body ∙ quad-0 n (q .tests) (q .link) 0 a ∙ is ∙ ap flag (k .masks .agrees);
+                tests = ap part1 body ∙ quad-1 n (q .tests) (q .link) 0 b ∙ k .tests .count;
                 links = λ m. subst (λ (i : ℕ). Links Q (c + 4) i (testsOn [] ls)) (sym link) (t .links m);
                 low = omega (arith, link, t .low);
                 looks = looks ∙ k .masks .looks;
@@ -236,7 +236,7 @@ module _ (P : List ℕ) (c last place size : ℕ) (small : length P ≤ 65535) (
     define-put = define-cell _ (put-four P c _ _ _ _ room) (word-0 P c _ _ _ _ room) (word-1 P c _ _ _ _ room) (word-2 P c _ _ _ _ room) (word-3 P c _ _ _ _ room)
 
   module _ (y : Part) (room : c + 3 ≤ length P) (some : (e : Exp) × PartIs P c y e) (n : ℕ) (is : n ≡ flag (y .nullable)) where
-    pub production-small : (y .node < 65536) × (y .letters < 65536) × (n < 65536) × (y .impossible < 65536) × (y .hollow < 65536)
+    production-small : (y .node < 65536) × (y .letters < 65536) × (n < 65536) × (y .impossible < 65536) × (y .hollow < 65536)
     production-small =
         let (e, k) = some in
         let f = flag-small (y .nullable) in
@@ -257,11 +257,11 @@ module _ (P : List ℕ) (c last place size : ℕ) (small : length P ≤ 65535) (
               record {
                 kind = kind;
                 used = omega arith;
-                node = subst (λ (i : ℕ). Denotes Q (c + 3) i e) (sym (ap part0 body ∙ quad-0 (y .node) 0 0 0 a (omega arith) (omega arith) (omega arith))) (part-kept P c Q (c + 3) x y e k .denotes);
-                letters = ap part0 sums ∙ quad-0 (y .letters) n (y .impossible) (y .hollow) b d f g ∙ k .letters;
-                null = ap part1 sums ∙ quad-1 (y .letters) n (y .impossible) (y .hollow) b d f g ∙ is ∙ ap flag (k .null);
-                impossible = ap part2 sums ∙ quad-2 (y .letters) n (y .impossible) (y .hollow) b d f g ∙ k .impossible;
-                hollow = ap part3 sums ∙ quad-3 (y .letters) n (y .impossible) (y .hollow) b d f g ∙ k .hollow;
+                node = subst (λ (i : ℕ). Denotes Q (c + 3) i e) (sym (ap part0 body ∙ quad-0 (y .node) 0 0 0 a)) (part-kept P c Q (c + 3) x y e k .denotes);
+                letters = ap part0 sums ∙ quad-0 (y .letters) n (y .impossible) (y .hollow) b ∙ k .letters;
+                null = ap part1 sums ∙ quad-1 (y .letters) n (y .impossible) (y .hollow) d ∙ is ∙ ap flag (k .null);
+                impossible = ap part2 sums ∙ quad-2 (y .letters) n (y .impossible) (y .hollow) f ∙ k .impossible;
+                hollow = ap part3 sums ∙ quad-3 (y .letters) n (y .impossible) (y .hollow) g ∙ k .hollow;
                 sized = k .sized;
               };
         }

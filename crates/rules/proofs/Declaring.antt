@@ -15,13 +15,13 @@ use Rattle.lexer.specs.Tokens.{Placed}
 use Rattle.meaning.specs.Reading.{Names, Meaning, withName, newInput, newStore, declare, Expect, statement, sign, closing, inputName, inputMore, inputHigh, storeName, storeMore, storeHigh, storeFirst, go, newName, step}
 use Rattle.rules.specs.declared.declarations.Scope.{Scope}
 use Rattle.rules.specs.declared.declarations.Declared.{Declared}
-use Rattle.rules.specs.Words.{quad, part0, part1, part2, part3}
+use Rattle.words.specs.Words.{quad, part0, part1, part2, part3}
 use Rattle.rules.specs.Cells.{at, Means, Cells, Declared as SomeNames}
 use Rattle.rules.specs.Reads.{readFrom, fine, faulted, Behind, NumberRead}
 use Rattle.rules.specs.Conditions.{Extends, Room}
 use Rattle.rules.specs.Defined.{HeadAt}
 use Rattle.rules.specs.Scopes.{Known, Ready, Refuses, Declares, NewAt, NameRead, NameWritten, Wide, WidthRead}
-use Rattle.rules.proofs.Numbers.{quad-0, quad-1, quad-2, quad-3}
+use Rattle.words.proofs.Quads.{quad-0, quad-1, quad-2, quad-3}
 use Rattle.rules.proofs.Put.{put-both, put-first, put-second}
 use Rattle.rules.proofs.Kept.{cells-kept}
 use Rattle.rules.proofs.Stepping.{well, ill}
@@ -39,12 +39,12 @@ put-name P c kind last place size a b room k l p s m n =
     let tail = put-second P c (quad kind last place size) (quad a b 0 0) room in
     record {
       extends = put-both P c (quad kind last place size) (quad a b 0 0) room;
-      of = ap part0 head ∙ quad-0 kind last place size k l p s;
-      back = ap part1 head ∙ quad-1 kind last place size k l p s;
-      from = ap part2 head ∙ quad-2 kind last place size k l p s;
-      long = ap part3 head ∙ quad-3 kind last place size k l p s;
-      first = ap part0 tail ∙ quad-0 a b 0 0 m n (omega arith) (omega arith);
-      second = ap part1 tail ∙ quad-1 a b 0 0 m n (omega arith) (omega arith);
+      of = ap part0 head ∙ quad-0 kind last place size k;
+      back = ap part1 head ∙ quad-1 kind last place size l;
+      from = ap part2 head ∙ quad-2 kind last place size p;
+      long = ap part3 head ∙ quad-3 kind last place size s;
+      first = ap part0 tail ∙ quad-0 a b 0 0 m;
+      second = ap part1 tail ∙ quad-1 a b 0 0 n;
     }
 
 -- a name more, before those that there are, whatever it means and however long its cell is

@@ -21,7 +21,7 @@ use Rattle.rules.specs.declared.expression.Parsed.{Parsed}
 use Rattle.rules.specs.declared.parts.Part.{Part}
 use Rattle.rules.specs.Seen.{seen, Sees}
 use Rattle.rules.specs.Cells.{at, Links, testsOn, Means, ProductionAt, Cells, Declared, Found, Finds}
-use Rattle.rules.specs.Words.{part0}
+use Rattle.words.specs.Words.{part0}
 use Rattle.rules.specs.Picks.{kindNumber, bytesOf}
 use Rattle.rules.specs.Reads.{readFrom, Unless, fine, faulted}
 use Rattle.rules.specs.declared.literals.Literals.{Literals}

@@ -20,7 +20,7 @@ use Rattle.rules.specs.declared.literals.Condition.{Condition}
 use Rattle.rules.specs.declared.literals.Literals.{Literals}
 use Rattle.rules.specs.declared.tokens.Seen.{Seen}
 use Rattle.rules.specs.Seen.{seen, Sees}
-use Rattle.rules.specs.Words.{part0, part1, part2}
+use Rattle.words.specs.Words.{part0, part1, part2}
 use Rattle.rules.specs.Cells.{at, link, Links, testsOn, flag, Means, InputAt, StoreAt, DefineAt, Cells, Declared, Finds}
 use Rattle.rules.specs.Picks.{kindNumber, Only, bytesOf, Picks}
 use Rattle.rules.specs.Reads.{readFrom, Unless, fine, faulted, Past, Behind, NumberRead}

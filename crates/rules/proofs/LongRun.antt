@@ -12,7 +12,7 @@ use Rattle.meaning.specs.Lists.{total}
 use Rattle.meaning.specs.Answers.{Answer, refused, letterOf}
 use Rattle.meaning.specs.Expression.{Exp, size}
 use Rattle.meaning.specs.Opening.{Opened, tooLong}
-use Rattle.rules.specs.Words.{part0}
+use Rattle.words.specs.Words.{part0}
 use Rattle.rules.specs.Cells.{at, ProductionAt}
 use Rattle.rules.specs.Monitors.{Listed, MonitorsAre, SomeMonitors, FirstLong}
 

@@ -8,7 +8,7 @@ use native.Mathlib.Omega.{arith}
 use lib.ListN.{length, take, drop}
 use Rattle.lexer.specs.Bytes.{Entry, lookup, same}
 use Rattle.meaning.specs.Reading.{Meaning}
-use Rattle.rules.specs.Words.{part1, part2, part3}
+use Rattle.words.specs.Words.{part1, part2, part3}
 use Rattle.rules.specs.Cells.{at, Spelled, Means, Cells, Declared, Found, Finds}
 
 -- what the name s stands for among all is what it stands for from the cell on

@@ -16,15 +16,16 @@ use Rattle.meaning.proofs.ListLaws.{append-∈, ∈-left, ∈-right, one-∈, h
 use Rattle.meaning.proofs.Numbering.{renumbered-ordered, renumbered-size, renumbered-rows}
 use Rattle.meaning.proofs.Summary.{Below, impossible-below, hollow-below, possible, rules11and12, shape-summary}
 use Rattle.meaning.proofs.RowCount.{rows-summary}
+use Rattle.shape.specs.Walk.{kinds, lefts, rights}
 use Rattle.shape.specs.Judge.{judgeOf, shownJudged}
 use Rattle.shape.specs.declared.Judged.{Judged}
 use Rattle.shape.specs.declared.Judged.the-variants.{Fine, OpenEnd, Fork}
 use Rattle.shape.proofs.Laid.{laid-held}
 use Rattle.shape.proofs.Right.{judge-right}
-use Rattle.rules.specs.Words.{part0, part1, part2, part3}
+use Rattle.words.specs.Words.{part0, part1, part2, part3}
 use Rattle.rules.specs.Cells.{at, coded, flag}
 use Rattle.rules.specs.Reads.{fine, faulted}
-use Rattle.rules.specs.Laying.{RowLists, LetterLists, ExpAt, SomeExp, Stored}
+use Rattle.rules.specs.Laying.{LetterLists, ExpAt, SomeExp, Stored}
 use Rattle.rules.specs.Monitors.{Arrays, MonitorAt, SomeMonitor, Answers, Ruled, Opens}
 use Rattle.rules.proofs.Placing.{Lays}
 use Rattle.rules.proofs.RowsStand.{rows-laid}
@@ -32,11 +33,11 @@ use Rattle.rules.proofs.TableRows.{numbered-at}
 
 -- ---- rules 11 and 12, asked of rows that were laid
 
-module _ (P : List ℕ) (node row index : ℕ) (R R′ : RowLists) (L L′ : LetterLists) (r l : ℕ) (a : Lays P node row index row R R′ L L′ r l) (j : Judged)
-    (q : j ≡ judgeOf (R′ .kind) (R′ .left) (R′ .right) (L′ .look) (L′ .want) row index l) where
+module _ (P : List ℕ) (node row index : ℕ) (T T′ : List ℕ) (L L′ : LetterLists) (r l : ℕ) (a : Lays P node row index row T T′ L L′ r l) (j : Judged)
+    (q : j ≡ judgeOf (kinds T′) (lefts T′) (rights T′) (L′ .look) (L′ .want) row index l) where
   -- whatever expression stands there
   abbrev Rules : (f n : ℕ) → Type 0
-  Rules f n = (c : ℕ) → (e : Exp) → ExpAt P c node row index e → Ruled row index e R R′ L L′ f n r l
+  Rules f n = (c : ℕ) → (e : Exp) → ExpAt P c node row index e → Ruled row index e T T′ L L′ f n r l
 
   pub ruled-fine : j ≡ Fine → Rules 0 0
   ruled-fine z c e s = record { stored = a c e s; answers = fine refl (ap shownJudged (sym q ∙ z)) }
@@ -49,12 +50,9 @@ module _ (P : List ℕ) (node row index : ℕ) (R R′ : RowLists) (L L′ : Let
 
 -- ---- what is stored keeps the arrays' lengths
 
-pub stored-arrays : {row up index : ℕ} {e : Exp} {R R′ : RowLists} {L L′ : LetterLists} {r l : ℕ} → Stored row up index e R R′ L L′ r l → Arrays R L → Arrays R′ L′
+pub stored-arrays : {row up index : ℕ} {e : Exp} {T T′ : List ℕ} {L L′ : LetterLists} {r l : ℕ} → Stored row up index e T T′ L L′ r l → Arrays T L → Arrays T′ L′
 stored-arrays s a = rw (s .rows-stored, s .letters-stored) record {
-  kinds = simp length-sets (a .kinds);
-  lefts = simp length-sets (a .lefts);
-  rights = simp length-sets (a .rights);
-  ups = simp length-sets (a .ups);
+  table = simp length-sets (a .table);
   looks = simp length-sets (a .looks);
   wants = simp length-sets (a .wants);
   links = simp length-sets (a .links);
@@ -104,12 +102,12 @@ module _ (P : List ℕ) (cell row index : ℕ) where
   cell-inside (c, m, w) = omega (arith, w .production .used, w .within)
 
   -- whatever monitor has the cell
-  abbrev pub OpensAs : (R R′ : RowLists) → (L L′ : LetterLists) → (f n r l : ℕ) → Type 0
-  OpensAs R R′ L L′ f n r l = (c : ℕ) → (m : Exp) → MonitorAt P c cell row index m → Opens row index m R R′ L L′ f n r l
+  abbrev pub OpensAs : (T T′ : List ℕ) → (L L′ : LetterLists) → (f n r l : ℕ) → Type 0
+  OpensAs T T′ L L′ f n r l = (c : ℕ) → (m : Exp) → MonitorAt P c cell row index m → Opens row index m T T′ L L′ f n r l
 
   module _ (k : ℕ) (q : k ≡ part2 (at P (cell + 2))) where
-    pub opens-impossible : (k ≡ 0 → ⊥) → (R : RowLists) (L : LetterLists) → OpensAs R R L L 9 (k - 1) row index
-    opens-impossible z R L c m w =
+    pub opens-impossible : (k ≡ 0 → ⊥) → (T : List ℕ) (L : LetterLists) → OpensAs T T L L 9 (k - 1) row index
+    opens-impossible z T L c m w =
         let e = named (impossibleAt m) (size m) k (impossible-below m) (omega (arith, w .space)) (q ∙ w .production .impossible) z in
         record {
           answers = faulted (λ h. omega arith) (shape-summary m ∙ ap (λ (o : Option ℕ). turnedAt 9 o (turnedAt 10 (unlessNullable m (hollowAt m)) (rules11and12 (renumbered 0 m)))) e);
@@ -128,8 +126,8 @@ module _ (P : List ℕ) (cell row index : ℕ) where
           ∙ ap (λ (p : Option ℕ). turnedAt 10 p (rules11and12 (renumbered 0 m))) e
 
       module _ (b : ℕ) (u : b ≡ part1 (at P (cell + 2))) where
-        pub opens-null : (b ≡ 0 → ⊥) → (R : RowLists) (L : LetterLists) → OpensAs R R L L 10 0 row index
-        opens-null y R L c m w =
+        pub opens-null : (b ≡ 0 → ⊥) → (T : List ℕ) (L : LetterLists) → OpensAs T T L L 10 0 row index
+        opens-null y T L c m w =
             let e = raised (nullable m) b (u ∙ w .production .null) y in
             record {
               answers = faulted (λ h. omega arith) (at-ten c m w (some 0) (ap (λ (t : Bool). cond t (some 0) (hollowAt m)) e));
@@ -140,8 +138,8 @@ module _ (P : List ℕ) (cell row index : ℕ) where
           not-null : (c : ℕ) (m : Exp) → MonitorAt P c cell row index m → unlessNullable m (hollowAt m) ≡ hollowAt m
           not-null c m w = ap (λ (t : Bool). cond t (some 0) (hollowAt m)) (lowered (nullable m) b (u ∙ w .production .null) y)
 
-          pub opens-hollow : (h ≡ 0 → ⊥) → (R : RowLists) (L : LetterLists) → OpensAs R R L L 10 (h - 1) row index
-          opens-hollow x R L c m w =
+          pub opens-hollow : (h ≡ 0 → ⊥) → (T : List ℕ) (L : LetterLists) → OpensAs T T L L 10 (h - 1) row index
+          opens-hollow x T L c m w =
               let e = named (hollowAt m) (size m) h (hollow-below m) (omega (arith, w .space)) (v ∙ w .production .hollow) x in
               record {
                 answers = faulted (λ g. omega arith) (at-ten c m w (some (h - 1)) (not-null c m w ∙ e));
@@ -165,26 +163,25 @@ module _ (P : List ℕ) (cell row index : ℕ) where
             pub some-exp : SomeMonitor P cell row index → SomeExp P node row index
             some-exp (c, m, w) = (c, m, exp-at c m w)
 
-            module _ (R R′ : RowLists) (L L′ : LetterLists) (f n r l : ℕ)
-                (a : (c : ℕ) → (e : Exp) → ExpAt P c node row index e → Ruled row index e R R′ L L′ f n r l) (arrays : Arrays R L) where
-              pub opens-ruled : OpensAs R R′ L L′ f n r l
+            module _ (T T′ : List ℕ) (L L′ : LetterLists) (f n r l : ℕ)
+                (a : (c : ℕ) → (e : Exp) → ExpAt P c node row index e → Ruled row index e T T′ L L′ f n r l) (arrays : Arrays T L) where
+              pub opens-ruled : OpensAs T T′ L L′ f n r l
               opens-ruled c m w =
                   let s = exp-at c m w in
                   let t = a c (renumbered 0 m) (numbered-at P c node row index 0 m s) in
                   let room : row + rows (renumbered 0 m) ≤ 1024 = omega (arith, s .room, renumbered-rows 0 m) in
                   let space : index + size (renumbered 0 m) ≤ 256 = omega (arith, s .space, renumbered-size 0 m) in
-                  let laid = rows-laid R L row row index (renumbered 0 m) R′ L′ (t .stored .rows-stored) (t .stored .letters-stored)
-                  (omega (arith, arrays .kinds)) (omega (arith, arrays .lefts)) (omega (arith, arrays .rights)) (omega (arith, arrays .looks)) (omega (arith, arrays .wants)) in
-                  let right = judge-right (R′ .kind) (R′ .left) (R′ .right) (L′ .look) (L′ .want) row index (renumbered 0 m)
-                  (laid-held (R′ .kind) (R′ .left) (R′ .right) (L′ .look) (L′ .want) (renumbered 0 m) row index laid) (renumbered-ordered 0 m)
+                  let laid = rows-laid T L arrays row row index (renumbered 0 m) T′ L′ (t .stored .rows-stored) (t .stored .letters-stored) room space in
+                  let right = judge-right (kinds T′) (lefts T′) (rights T′) (L′ .look) (L′ .want) row index (renumbered 0 m)
+                  (laid-held (kinds T′) (lefts T′) (rights T′) (L′ .look) (L′ .want) (renumbered 0 m) row index laid) (renumbered-ordered 0 m)
                   (sized-numbered 0 m (w .production .sized)) (possible m (is-possible c m w)) (omega arith) in
                   record {
                     answers = subst (Answers f n)
-                        (ap (λ (z : ℕ). shownJudged (judgeOf (R′ .kind) (R′ .left) (R′ .right) (L′ .look) (L′ .want) row index z)) (t .stored .next-letter)
+                        (ap (λ (z : ℕ). shownJudged (judgeOf (kinds T′) (lefts T′) (rights T′) (L′ .look) (L′ .want) row index z)) (t .stored .next-letter)
                         ∙ right ∙ sym (at-ten c m w none (solid c m w)))
                         (t .answers);
                     stored = λ z. a c m s .stored;
                   }
 
-              pub ruled-arrays : SomeMonitor P cell row index → Arrays R′ L′
+              pub ruled-arrays : SomeMonitor P cell row index → Arrays T′ L′
               ruled-arrays (c, m, w) = stored-arrays (a c m (exp-at c m w) .stored) arrays

@@ -12,7 +12,7 @@ use Rattle.meaning.specs.Expression.{Letter}
 use Rattle.meaning.specs.Masks.{look, want}
 use Rattle.meaning.proofs.ListLaws.{each-append}
 use Rattle.rules.specs.Cells.{Link, testsOn, writesOn}
-use Rattle.rules.specs.Laying.{RowCode, RowLists, rowLists, withRows, slotWord, slotNumber, twoSlots, slotsOf, LetterLists, letterLists, withLetters}
+use Rattle.rules.specs.Laying.{RowCode, rowWord, withRows, slotWord, slotNumber, twoSlots, slotsOf, LetterLists, letterLists, withLetters}
 
 -- ---- one list
 
@@ -32,31 +32,25 @@ set-before L j i x [] l = refl
 set-before L j i x (y ∷ ys) l =
     set-before (set L i y) j (suc i) x ys (omega arith) ∙ ap (λ (M : List ℕ). sets M (suc i) ys) (set-comm L i j y x (λ (e : i ≡ j). omega arith))
 
+-- what a list's elements give, behind what those of another give
+mapped-behind : {A : Type 0} (f : A → ℕ) (L : List ℕ) (i : ℕ) (xs : List A) (n : ℕ) (ys : List A) → n ≡ i + length xs
+    → sets (sets L i (map f xs)) n (map f ys) ≡ sets L i (map f (xs ++ ys))
+mapped-behind f L i xs n ys e = sets-behind L i n (map f xs) (map f ys) _ (e ∙ ap (λ (m : ℕ). i + m) (sym (length-map xs f))) (map-append f xs ys)
+
 -- ---- rows
 
-same-rows : {a b c d a′ b′ c′ d′ : List ℕ} → a ≡ a′ → b ≡ b′ → c ≡ c′ → d ≡ d′ → rowLists a b c d ≡ rowLists a′ b′ c′ d′
-same-rows {a} {b} {c} {d} {a′} {b′} {c′} {d′} p q r s = ap₂ (λ (x y : List ℕ). rowLists x y c d) p q ∙ ap₂ (λ (x y : List ℕ). rowLists a′ b′ x y) r s
+module _ (T : List ℕ) (r : ℕ) (xs : List RowCode) where
+  pub row-before : (x : RowCode) → withRows (withRows T (suc r) xs) r (x ∷ []) ≡ withRows T r (x ∷ xs)
+  row-before x = set-before T r (suc r) (rowWord x) (map rowWord xs) (omega arith)
 
-module _ (A : RowLists) (r : ℕ) (xs : List RowCode) where
-  pub row-before : (x : RowCode) → withRows (withRows A (suc r) xs) r (x ∷ []) ≡ withRows A r (x ∷ xs)
-  row-before x =
-      same-rows (one (A .kind) (λ x. x .kind)) (one (A .left) (λ x. x .left)) (one (A .right) (λ x. x .right)) (one (A .up) (λ x. x .up))
-    where
-      one : (L : List ℕ) (f : RowCode → ℕ) → set (sets L (suc r) (map f xs)) r (f x) ≡ sets L r (map f (x ∷ xs))
-      one L f = set-before L r (suc r) (f x) (map f xs) (omega arith)
-
-  pub rows-behind : (n : ℕ) (ys : List RowCode) → n ≡ r + length xs → withRows (withRows A r xs) n ys ≡ withRows A r (xs ++ ys)
-  rows-behind n ys e =
-      same-rows (one (A .kind) (λ x. x .kind)) (one (A .left) (λ x. x .left)) (one (A .right) (λ x. x .right)) (one (A .up) (λ x. x .up))
-    where
-      one : (L : List ℕ) (f : RowCode → ℕ) → sets (sets L r (map f xs)) n (map f ys) ≡ sets L r (map f (xs ++ ys))
-      one L f = sets-behind L r n (map f xs) (map f ys) _ (e ∙ ap (λ (m : ℕ). r + m) (sym (length-map xs f))) (map-append f xs ys)
+  pub rows-behind : (n : ℕ) (ys : List RowCode) → n ≡ r + length xs → withRows (withRows T r xs) n ys ≡ withRows T r (xs ++ ys)
+  rows-behind n ys e = mapped-behind rowWord T r xs n ys e
 
 -- the rows of two operands, and then their operator's own
-pub rows-two : (A A₁ A₂ A′ : RowLists) (r n : ℕ) (x : RowCode) (xs ys : List RowCode) → n ≡ r + 1 + length xs → A₁ ≡ withRows A (r + 1) xs
+pub rows-two : (A A₁ A₂ A′ : List ℕ) (r n : ℕ) (x : RowCode) (xs ys : List RowCode) → n ≡ r + 1 + length xs → A₁ ≡ withRows A (r + 1) xs
     → A₂ ≡ withRows A₁ n ys → A′ ≡ withRows A₂ r (x ∷ []) → A′ ≡ withRows A r (x ∷ (xs ++ ys))
 rows-two A A₁ A₂ A′ r n x xs ys e p q s =
-    s ∙ ap (λ (B : RowLists). withRows B r (x ∷ [])) (q ∙ ap (λ (B : RowLists). withRows B n ys) p ∙ rows-behind A (r + 1) xs n ys e)
+    s ∙ ap (λ (B : List ℕ). withRows B r (x ∷ [])) (q ∙ ap (λ (B : List ℕ). withRows B n ys) p ∙ rows-behind A (r + 1) xs n ys e)
     ∙ rw (add-one r) (row-before A r (xs ++ ys) x)
 
 -- ---- letters
@@ -78,11 +72,8 @@ slots-long f (x ∷ xs) =
 pub letters-behind : (A : LetterLists) (l : ℕ) (xs : List Letter) (n : ℕ) (ys : List Letter) → n ≡ l + length xs
     → withLetters (withLetters A l xs) n ys ≡ withLetters A l (xs ++ ys)
 letters-behind A l xs n ys e =
-    same-letters (one (A .look) (λ x. look (x .literals))) (one (A .want) (λ x. want (x .literals))) (four (A .links) slotWord) (four (A .numbers) slotNumber)
+    same-letters (mapped-behind (λ x. look (x .literals)) (A .look) l xs n ys e) (mapped-behind (λ x. want (x .literals)) (A .want) l xs n ys e) (four (A .links) slotWord) (four (A .numbers) slotNumber)
   where
-    one : (L : List ℕ) (f : Letter → ℕ) → sets (sets L l (map f xs)) n (map f ys) ≡ sets L l (map f (xs ++ ys))
-    one L f = sets-behind L l n (map f xs) (map f ys) _ (e ∙ ap (λ (m : ℕ). l + m) (sym (length-map xs f))) (map-append f xs ys)
-
     four : (L : List ℕ) (f : Option Link → ℕ)
         → sets (sets L (4 * l) (each xs (λ x. map f (slotsOf x)))) (4 * n) (each ys (λ x. map f (slotsOf x))) ≡ sets L (4 * l) (each (xs ++ ys) (λ x. map f (slotsOf x)))
     four L f =

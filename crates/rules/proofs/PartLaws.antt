@@ -17,11 +17,11 @@ use Rattle.meaning.specs.Reading.{join, aLetter}
 use Rattle.meaning.proofs.ListLaws.{append-∈, one-∈}
 use Rattle.rules.specs.declared.literals.Condition.{Condition}
 use Rattle.rules.specs.declared.parts.Part.{Part}
-use Rattle.rules.specs.Words.{quad, part0, part1, part2, part3}
+use Rattle.words.specs.Words.{quad, part0, part1, part2, part3}
 use Rattle.rules.specs.Cells.{at, Links, testsOn, writesOn, Node, Denotes, coded, flag, ProductionAt}
 use Rattle.rules.specs.Conditions.{Extends}
 use Rattle.rules.specs.Parts.{present, Summed, PartIs, OptionIs, Within, opOf, Operator, SumOf, JoinMade, StarMade, LetterMade}
-use Rattle.rules.proofs.Numbers.{quad-0, quad-1, quad-2}
+use Rattle.words.proofs.Quads.{quad-0, quad-1, quad-2}
 use Rattle.rules.proofs.Put.{extends-refl, extends-then, put-extends, put-at, put-both, put-first, put-second}
 use Rattle.rules.proofs.Kept.{links-kept, denotes-kept}
 use Rattle.rules.proofs.Summing.{coded-most, by-kind}
@@ -68,21 +68,21 @@ option-kept P c Q d x p (some e) y = part-kept P c Q d x p e y
 
 -- ---- nodes
 
-pub kind-small : (kind : ℕ) → Operator kind → kind < 65536
+kind-small : (kind : ℕ) → Operator kind → kind < 65536
 kind-small kind o = by-kind (λ k op. k < 65536) (omega arith) (omega arith) (omega arith) kind o
 
 -- a word more that is a node: its kind, and what it leads to among the words before it
 module _ (P Q : List ℕ) (c d kind i j : ℕ) (x : Extends P c Q d) (w : at Q c ≡ quad kind i j 0) (more : c < d) (small : c < 65535) (few : kind < 65536)
     (l : i < c) (m : j < c) where
   first : part1 (at Q c) ≡ i
-  first = ap part1 w ∙ quad-1 kind i j 0 few (omega arith) (omega arith) (omega arith)
+  first = ap part1 w ∙ quad-1 kind i j 0 (omega arith)
 
   second : part2 (at Q c) ≡ j
-  second = ap part2 w ∙ quad-2 kind i j 0 few (omega arith) (omega arith) (omega arith)
+  second = ap part2 w ∙ quad-2 kind i j 0 (omega arith)
 
   node : Node Q d c kind
   unfolding Node
-  node = (omega arith, more, ap part0 w ∙ quad-0 kind i j 0 few (omega arith) (omega arith) (omega arith))
+  node = (omega arith, more, ap part0 w ∙ quad-0 kind i j 0 few)
 
   first-low : part1 (at Q c) < c
   first-low = rw first l

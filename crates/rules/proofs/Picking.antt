@@ -11,7 +11,7 @@ use Rattle.meaning.specs.Expression.{Literal, Exp}
 use Rattle.meaning.specs.Reading.{Names, Meaning, anInput, aStore, aDefine, aProduction, Step, fault, known, onName, ifName, byKind, atToken}
 use Rattle.rules.specs.declared.tokens.Seen.{Seen}
 use Rattle.rules.specs.Seen.{seen, Sees}
-use Rattle.rules.specs.Words.{part0}
+use Rattle.words.specs.Words.{part0}
 use Rattle.rules.specs.Cells.{at, Means, Declared, Found, Finds}
 use Rattle.rules.specs.Picks.{kindNumber, Only, bytesOf, Picked, Rejected, Picks}
 use Rattle.rules.specs.Reads.{Unless, fine, faulted}

@@ -7,9 +7,9 @@ use native.Mathlib.Omega.{arith}
 use lib.ListN.{length, set, length-append}
 use lib.Seq.{sets}
 use Rattle.meaning.specs.Expression.{Letter, Exp, letter, seq, alt, star, pipe, letters, size, rows}
-use Rattle.rules.specs.Words.{part0, part1, part2}
+use Rattle.words.specs.Words.{part0, part1, part2}
 use Rattle.rules.specs.Cells.{at, Link, Node, Denotes, testsOn, writesOn}
-use Rattle.rules.specs.Laying.{rowCode, rowCodes, RowLists, withRows, slotWord, slotNumber, twoSlots, LetterLists, letterLists, withLetters, LinksAt, SomeLinks, LetterAt, SomeLetter, ExpAt, SomeExp, Stored}
+use Rattle.rules.specs.Laying.{rowCode, rowCodes, withRows, slotWord, slotNumber, twoSlots, LetterLists, letterLists, withLetters, LinksAt, SomeLinks, LetterAt, SomeLetter, ExpAt, SomeExp, Stored}
 use Rattle.rules.proofs.Overlay.{row-before, rows-two, letters-behind, one-letter}
 
 -- ---- a letter's words
@@ -81,10 +81,10 @@ module _ (e f : Exp) where
   two-codes r up l is-alt = refl
   two-codes r up l is-pipe = refl
 
-two-kind : {k : ℕ} {op : Exp → Exp → Exp} → Operator k op → (0 < k) × (k < 5) × (k ≡ 3 → ⊥)
-two-kind is-seq = (omega arith, omega arith, λ e. omega arith)
-two-kind is-alt = (omega arith, omega arith, λ e. omega arith)
-two-kind is-pipe = (omega arith, omega arith, λ e. omega arith)
+two-kind : {k : ℕ} {op : Exp → Exp → Exp} → Operator k op → (0 < k) × (k ≡ 3 → ⊥)
+two-kind is-seq = (omega arith, λ e. omega arith)
+two-kind is-alt = (omega arith, λ e. omega arith)
+two-kind is-pipe = (omega arith, λ e. omega arith)
 
 -- what stands at node n
 data Form (P : List ℕ) (c n : ℕ) : Exp → Type 0 where
@@ -146,7 +146,7 @@ module _ (P : List ℕ) (n row index : ℕ) where
   first-room (c, e, s) = let (a, b) = some-room e in (omega (arith, s .room), omega (arith, s .space))
 
   -- whatever expression stands there is laid
-  abbrev pub Lays : (up : ℕ) → (R R′ : RowLists) → (L L′ : LetterLists) → (r l : ℕ) → Type 0
+  abbrev pub Lays : (up : ℕ) → (R R′ : List ℕ) → (L L′ : LetterLists) → (r l : ℕ) → Type 0
   Lays up R R′ L L′ r l = (c : ℕ) → (e : Exp) → ExpAt P c n row index e → Stored row up index e R R′ L L′ r l
 
 -- ---- a letter
@@ -165,7 +165,7 @@ module _ (P : List ℕ) (n row index k : ℕ) (q : k ≡ part0 (at P n)) (z : k 
   pub some-letter : SomeExp P n row index → SomeLetter P n
   some-letter (c, g, s) = let (x, e, t) = letter-at c g s in (c, x, t)
 
-  pub letter-lays : (up : ℕ) (R R′ : RowLists) (L L′ : LetterLists) → ((c : ℕ) → (x : Letter) → LetterAt P c n x → L′ ≡ withLetters L index (x ∷ []))
+  pub letter-lays : (up : ℕ) (R R′ : List ℕ) (L L′ : LetterLists) → ((c : ℕ) → (x : Letter) → LetterAt P c n x → L′ ≡ withLetters L index (x ∷ []))
       → R′ ≡ withRows R row (rowCode 0 index 0 up ∷ []) → Lays P n row index up R R′ L L′ (row + 1) (index + 1)
   unfolding rowCodes letters rows size
   letter-lays up R R′ L L′ a b c g s =
@@ -192,9 +192,9 @@ module _ (P : List ℕ) (n row index k i : ℕ) (q : k ≡ part0 (at P n)) (b : 
   a-star : (c : ℕ) {g : Exp} → Form P c n g → k ≡ 3 → (e : Exp) × (g ≡ star e) × Denotes P c i e
   a-star c (of-letter x h) z = absurd (omega arith)
   a-star c (of-star e h p d) z = (e, refl, rw b d)
-  a-star c (of-two e f k op o h p j d g) z = absurd (two-kind o .2 (sym h ∙ sym q ∙ z))
+  a-star c (of-two e f k op o h p j d g) z = absurd (two-kind o .1 (sym h ∙ sym q ∙ z))
 
-  pub star-lays : k ≡ 3 → (up : ℕ) (R R₁ R′ : RowLists) (L L′ : LetterLists) (r l : ℕ) → Lays P i (row + 1) index row R R₁ L L′ r l
+  pub star-lays : k ≡ 3 → (up : ℕ) (R R₁ R′ : List ℕ) (L L′ : LetterLists) (r l : ℕ) → Lays P i (row + 1) index row R R₁ L L′ r l
       → R′ ≡ withRows R₁ row (rowCode 3 (row + 1) 0 up ∷ []) → Lays P n row index up R R′ L L′ r l
   unfolding rowCodes letters rows size
   star-lays z up R R₁ R′ L L′ r l a m c g s =
@@ -204,7 +204,7 @@ module _ (P : List ℕ) (n row index k i : ℕ) (q : k ≡ part0 (at P n)) (b : 
       let t = a c e (record { within = s .within; denotes = d; room = omega arith; space = y }) in
       subst (λ (g : Exp). Stored row up index g R R′ L L′ r l) (sym w)
       record {
-        rows-stored = m ∙ ap (λ (A : RowLists). withRows A row (rowCode 3 (row + 1) 0 up ∷ [])) (t .rows-stored) ∙ rw (add-one row) (row-before R row (rowCodes (suc row) row index e) (rowCode 3 (suc row) 0 up));
+        rows-stored = m ∙ ap (λ (A : List ℕ). withRows A row (rowCode 3 (row + 1) 0 up ∷ [])) (t .rows-stored) ∙ rw (add-one row) (row-before R row (rowCodes (suc row) row index e) (rowCode 3 (suc row) 0 up));
         letters-stored = t .letters-stored;
         next-row = omega (arith, t .next-row);
         next-letter = t .next-letter;
@@ -222,12 +222,9 @@ record Two (P : List ℕ) (c n k i j : ℕ) (g : Exp) : Type 0 where
   first : Denotes P c i e
   second : Denotes P c j f
 
--- what is known of them when the first is laid
-pub record Operands (P : List ℕ) (n row k j next from : ℕ) : Type 0 where
+-- what is known of the second when the first is laid
+pub record Second (P : List ℕ) (n j next from : ℕ) : Type 0 where
   pub falls : j < n
-  pub small : k < 5
-  pub below : row + 1 < 1024
-  pub room : next < 1024
   pub stands : SomeExp P j next from
 
 module _ (P : List ℕ) (n row index k i j : ℕ) (q : k ≡ part0 (at P n)) (b : i ≡ part1 (at P n)) (b′ : j ≡ part2 (at P n)) (z : k ≡ 0 → ⊥) (y : k ≡ 3 → ⊥) where
@@ -262,21 +259,17 @@ module _ (P : List ℕ) (n row index k i j : ℕ) (q : k ≡ part0 (at P n)) (b 
     second-at : (next from : ℕ) → next ≡ row + 1 + rows (w .e) → from ≡ index + size (w .e) → ExpAt P c j next from (w .f)
     second-at next from a b = record { within = s .within; denotes = w .second; room = omega (arith, s .room, whole-rows); space = omega (arith, s .space, whole-size) }
 
-  module _ (R R₁ : RowLists) (L L₁ : LetterLists) (next from : ℕ) (a : Lays P i (row + 1) index row R R₁ L L₁ next from) where
-    pub operands : SomeExp P n row index → Operands P n row k j next from
-    operands (c, g, s) =
+  module _ (R R₁ : List ℕ) (L L₁ : LetterLists) (next from : ℕ) (a : Lays P i (row + 1) index row R R₁ L L₁ next from) where
+    pub second-operand : SomeExp P n row index → Second P n j next from
+    second-operand (c, g, s) =
         let w = two c (form P c n g (s .denotes)) in
         let t = a c (w .e) (first-at c g s w) in
-        let v : SomeExp P j next from = (c, w .f, second-at c g s w next from (t .next-row) (t .next-letter)) in
         record {
           falls = w .falls;
-          small = two-kind (w .operator) .1;
-          below = first-room P i (row + 1) index (c, w .e, first-at c g s w) .0;
-          room = first-room P j next from v .0;
-          stands = v;
+          stands = (c, w .f, second-at c g s w next from (t .next-row) (t .next-letter));
         }
 
-    pub two-lays : (up : ℕ) (R₂ R′ : RowLists) (L′ : LetterLists) (r l : ℕ) → Lays P j next from row R₁ R₂ L₁ L′ r l
+    pub two-lays : (up : ℕ) (R₂ R′ : List ℕ) (L′ : LetterLists) (r l : ℕ) → Lays P j next from row R₁ R₂ L₁ L′ r l
         → R′ ≡ withRows R₂ row (rowCode k (row + 1) next up ∷ []) → Lays P n row index up R R′ L L′ r l
     two-lays up R₂ R′ L′ r l d m c g s =
         let w = two c (form P c n g (s .denotes)) in

@@ -6,10 +6,10 @@ use Prim.Native.Nat.{ℕ, _+_, _<_, _≤_}
 use native.Mathlib.Omega.{arith}
 use lib.ListN.{length, set, length-set}
 use lib.Seq.{getD-set-same, getD-set-other}
-use Rattle.rules.specs.Words.{quad, part0, part1, part2, part3}
+use Rattle.words.specs.Words.{quad, part0, part1, part2, part3}
 use Rattle.rules.specs.Cells.{at, link, LinkAt}
 use Rattle.rules.specs.Conditions.{Extends, Linked}
-use Rattle.rules.proofs.Numbers.{quad-0, quad-1, quad-2, quad-3}
+use Rattle.words.proofs.Quads.{quad-0, quad-1, quad-2, quad-3}
 
 pub extends-refl : (P : List ℕ) (c : ℕ) → Extends P c P c
 extends-refl P c = record { long = refl; more = omega arith; kept = λ i l. refl }
@@ -58,13 +58,13 @@ module _ (P : List ℕ) (c tests last s lo width v : ℕ) (room : c + 2 ≤ leng
         cell = λ l. (
           (
             omega arith,
-            ap part0 head ∙ quad-0 s lo width last p q r d,
-            ap part1 head ∙ quad-1 s lo width last p q r d,
-            ap part2 head ∙ quad-2 s lo width last p q r d,
+            ap part0 head ∙ quad-0 s lo width last p,
+            ap part1 head ∙ quad-1 s lo width last q,
+            ap part2 head ∙ quad-2 s lo width last r,
             put-second P c (quad s lo width last) v room,
-            rw (ap part3 head ∙ quad-3 s lo width last p q r d) low,
+            rw (ap part3 head ∙ quad-3 s lo width last d) low,
           ),
-          ap part3 head ∙ quad-3 s lo width last p q r d,
+          ap part3 head ∙ quad-3 s lo width last d,
         );
         low = omega arith;
       }

@@ -10,7 +10,7 @@ use lib.ListN.{length, set}
 use lib.Pow.{pow-pos, shl-exact}
 use lib.Seq.{sets}
 use borrow.Author.Tests.{eq-eqb, ne-eqb}
-use Rattle.rules.specs.Words.{quad, part0, part1, part2, part3}
+use Rattle.words.specs.Words.{quad, part0, part1, part2, part3}
 use Rattle.rules.specs.Cells.{at, Link, LinkAt, Links}
 use Rattle.rules.specs.Laying.{linkWord, ones, linkNumber, slotWord, slotNumber, twoSlots, behind, Slot, SlotAt, SomeSlot, LinksAt, SomeLinks}
 

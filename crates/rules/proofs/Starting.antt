@@ -5,16 +5,18 @@ use mathlib.Core.List.{List, [], _∷_, _++_, map, map-append, append-nil}
 use Prim.Native.Nat.{ℕ, zero, suc, _+_, _<_, _≤_}
 use native.Mathlib.Omega.{arith}
 use lib.Dec.{eqb, eqb→eq}
-use lib.ListN.{length, length-append, getD, take, replicate, length-replicate, set, length-set}
+use lib.ListN.{length, length-append, length-map, getD, take, replicate, length-replicate, set, length-set}
 use lib.Seq.{sets, set-out, length-take-le, take-suc}
 use Rattle.meaning.specs.Masks.{look, want}
 use Rattle.meaning.specs.Lists.{each}
 use Rattle.meaning.specs.Expression.{Letter, Exp, letter, seq, alt, star, pipe, letters, size, rows, renumbered}
 use Rattle.meaning.proofs.Numbering.{renumbered-size, renumbered-rows}
-use Rattle.rules.specs.Laying.{RowLists, rowCode, rowCodes, slotsOf, slotWord, slotNumber}
+use Rattle.words.specs.Words.{part0}
+use Rattle.shape.specs.Walk.{kinds}
+use Rattle.rules.specs.Laying.{rowCode, rowCodes, slotsOf, slotWord, slotNumber}
 use Rattle.rules.specs.Monitors.{codesAll, startsBy, Lists, withMonitors}
 use Rattle.meaning.proofs.ListLaws.{is-false}
-use Rattle.rules.specs.Watches.{rowWord, rowWords, lettersFrom}
+use Rattle.rules.specs.Watches.{lettersFrom}
 use Rattle.rules.proofs.Overlay.{sets-behind}
 
 -- ---- marks
@@ -27,30 +29,6 @@ pub marks-more : (L : List ℕ) (i : ℕ) → set (sets L 256 (replicate i 1)) (
 marks-more L i =
     sets-behind L 256 (256 + i) (replicate i 1) (1 ∷ []) (replicate (i + 1) 1) (ap (λ (n : ℕ). 256 + n) (sym (length-replicate i 1)))
     (let e : i + 1 ≡ suc i = omega arith in ap (λ (n : ℕ). replicate n 1) e ∙ replicate-more i 1)
-
--- ---- rows in one word each
-
-rows-long : (n : ℕ) (A : RowLists) → length (rowWords n A) ≡ n
-unfolding rowWords
-rows-long zero A = refl
-rows-long (suc n) A = let l = length-append (rowWords n A) (rowWord A n ∷ []) in omega (arith, l, rows-long n A)
-
-pub no-rows : (A : RowLists) → replicate 1024 0 ≡ sets (replicate 1024 0) 0 (rowWords 0 A)
-unfolding rowWords
-no-rows A = refl
-
-pub rows-more : (A : RowLists) (T : List ℕ) (i w : ℕ) → length T ≡ 1024 → T ≡ sets (replicate 1024 0) 0 (rowWords i A) → w ≡ rowWord A i
-    → (length (set T i w) ≡ 1024) × (set T i w ≡ sets (replicate 1024 0) 0 (rowWords (i + 1) A))
-unfolding rowWords
-rows-more A T i w h e q = (
-  length-set T i w ∙ h,
-  ap₂ (λ (s : List ℕ) (x : ℕ). set s i x) e q
-      ∙ sets-behind (replicate 1024 0) 0 i (rowWords i A) (rowWord A i ∷ []) (rowWords (i + 1) A) (let l = rows-long i A in omega (arith, l))
-      (let k : i + 1 ≡ suc i = omega arith in ap (λ (n : ℕ). rowWords n A) k),
-)
-
-pub rows-end : (A : RowLists) (T : List ℕ) (i n : ℕ) → T ≡ sets (replicate 1024 0) 0 (rowWords i A) → i ≡ n → T ≡ sets (replicate 1024 0) 0 (rowWords n A)
-rows-end A T i n e q = e ∙ ap (λ (m : ℕ). sets (replicate 1024 0) 0 (rowWords m A)) q
 
 -- ---- the rows of letters
 
@@ -72,50 +50,56 @@ letters-next r (x ∷ ks) k =
     by true h = ap (λ (s : List ℕ). r ∷ s) h
     by false h = h
 
+-- with one row more
+kinds-next : (T : List ℕ) (i : ℕ) → i < length T → kinds (take (i + 1) T) ≡ kinds (take i T) ++ (part0 (getD T i 0) ∷ [])
+kinds-next T i h =
+    let e : i + 1 ≡ suc i = omega arith in
+    ap (λ (j : ℕ). kinds (take j T)) e ∙ ap kinds (take-suc T i 0 h) ∙ map-append part0 (take i T) (getD T i 0 ∷ [])
+
 -- what the loop over rows has stored and counted, of the first i
-pub record Placed (K P : List ℕ) (i n : ℕ) : Type 0 where
-  pub count : n ≡ length (lettersFrom 0 (take i K))
-  pub places : P ≡ sets (replicate 256 0) 0 (lettersFrom 0 (take i K))
+pub record Placed (T P : List ℕ) (i n : ℕ) : Type 0 where
+  pub count : n ≡ length (lettersFrom 0 (kinds (take i T)))
+  pub places : P ≡ sets (replicate 256 0) 0 (lettersFrom 0 (kinds (take i T)))
 
-pub none-placed : (K : List ℕ) → Placed K (replicate 256 0) 0 0
+pub none-placed : (T : List ℕ) → Placed T (replicate 256 0) 0 0
 unfolding lettersFrom
-none-placed K = record { count = refl; places = refl }
+none-placed T = record { count = refl; places = refl }
 
-pub one-placed : (K P Q : List ℕ) (i n m : ℕ) → i < length K → Placed K P i n → m ≡ cond (eqb (getD K i 0) 0) (n + 1) n
-    → Q ≡ cond (eqb (getD K i 0) 0) (set P n i) P → Placed K Q (i + 1) m
-one-placed K P Q i n m h a p q =
-    by (eqb (getD K i 0) 0) p q
-    (let e : i + 1 ≡ suc i = omega arith in
-    ap (λ (j : ℕ). lettersFrom 0 (take j K)) e ∙ ap (lettersFrom 0) (take-suc K i 0 h) ∙ letters-next 0 (take i K) (getD K i 0)
-    ∙ ap (λ (j : ℕ). lettersFrom 0 (take i K) ++ cond (eqb (getD K i 0) 0) (j ∷ []) []) (let l = length-take-le i K (omega arith) in omega (arith, l)))
-  where
-    by : (b : Bool) → m ≡ cond b (n + 1) n → Q ≡ cond b (set P n i) P → lettersFrom 0 (take (i + 1) K) ≡ lettersFrom 0 (take i K) ++ cond b (i ∷ []) [] → Placed K Q (i + 1) m
-    by true u v w =
-        let l = length-append (lettersFrom 0 (take i K)) (i ∷ []) in
-        record {
-          count = u ∙ ap (λ (j : ℕ). j + 1) (a .count) ∙ sym (ap length w ∙ l);
-          places = v ∙ ap₂ (λ (s : List ℕ) (j : ℕ). set s j i) (a .places) (a .count)
-              ∙ sets-behind (replicate 256 0) 0 (length (lettersFrom 0 (take i K))) (lettersFrom 0 (take i K)) (i ∷ []) (lettersFrom 0 (take (i + 1) K)) (omega arith) w;
-        }
-    by false u v w =
-        let e = w ∙ append-nil (lettersFrom 0 (take i K)) in
-        record { count = u ∙ a .count ∙ ap length (sym e); places = v ∙ a .places ∙ ap (sets (replicate 256 0) 0) (sym e) }
+-- a row of kind k is next
+module _ (T P Q : List ℕ) (i n m k : ℕ) (h : i < length T) (is : k ≡ part0 (getD T i 0)) (a : Placed T P i n) (p : m ≡ cond (eqb k 0) (n + 1) n) (q : Q ≡ cond (eqb k 0) (set P n i) P) where
+  one-placed : Placed T Q (i + 1) m
+  one-placed =
+      by (eqb k 0) p q
+      (ap (lettersFrom 0) (kinds-next T i h) ∙ letters-next 0 (kinds (take i T)) (part0 (getD T i 0))
+      ∙ ap₂ (λ (j x : ℕ). lettersFrom 0 (kinds (take i T)) ++ cond (eqb x 0) (j ∷ []) []) (let l = length-map (take i T) part0 in let t = length-take-le i T (omega arith) in omega (arith, l, t)) (sym is))
+    where
+      by : (b : Bool) → m ≡ cond b (n + 1) n → Q ≡ cond b (set P n i) P
+          → lettersFrom 0 (kinds (take (i + 1) T)) ≡ lettersFrom 0 (kinds (take i T)) ++ cond b (i ∷ []) [] → Placed T Q (i + 1) m
+      by true u v w =
+          let l = length-append (lettersFrom 0 (kinds (take i T))) (i ∷ []) in
+          record {
+            count = u ∙ ap (λ (j : ℕ). j + 1) (a .count) ∙ sym (ap length w ∙ l);
+            places = v ∙ ap₂ (λ (s : List ℕ) (j : ℕ). set s j i) (a .places) (a .count)
+                ∙ sets-behind (replicate 256 0) 0 (length (lettersFrom 0 (kinds (take i T)))) (lettersFrom 0 (kinds (take i T))) (i ∷ []) (lettersFrom 0 (kinds (take (i + 1) T))) (omega arith) w;
+          }
+      by false u v w =
+          let e = w ∙ append-nil (lettersFrom 0 (kinds (take i T))) in
+          record { count = u ∙ a .count ∙ ap length (sym e); places = v ∙ a .places ∙ ap (sets (replicate 256 0) 0) (sym e) }
 
--- the loop goes on
-pub placed-next : (K P Q : List ℕ) (i n m rows : ℕ) → i < rows → n ≤ i → length P ≡ 256 → Placed K P i n → i < length K → m ≡ cond (eqb (getD K i 0) 0) (n + 1) n
-    → Q ≡ cond (eqb (getD K i 0) 0) (set P n i) P → (i + 1 ≤ rows) × (m ≤ i + 1) × (length Q ≡ 256) × Placed K Q (i + 1) m
-placed-next K P Q i n m rows r l s a h p q = (omega arith, few (eqb (getD K i 0) 0) p, long (eqb (getD K i 0) 0) q, one-placed K P Q i n m h a p q)
-  where
-    few : (b : Bool) → m ≡ cond b (n + 1) n → m ≤ i + 1
-    few true u = omega (arith, u)
-    few false u = omega (arith, u)
+  -- the loop goes on
+  pub placed-next : (rows : ℕ) → i < rows → n ≤ i → length P ≡ 256 → (i + 1 ≤ rows) × (m ≤ i + 1) × (length Q ≡ 256) × Placed T Q (i + 1) m
+  placed-next rows r l s = (omega arith, few (eqb k 0) p, long (eqb k 0) q, one-placed)
+    where
+      few : (b : Bool) → m ≡ cond b (n + 1) n → m ≤ i + 1
+      few true u = omega (arith, u)
+      few false u = omega (arith, u)
 
-    long : (b : Bool) → Q ≡ cond b (set P n i) P → length Q ≡ 256
-    long true v = ap length v ∙ length-set P n i ∙ s
-    long false v = ap length v ∙ s
+      long : (b : Bool) → Q ≡ cond b (set P n i) P → length Q ≡ 256
+      long true v = ap length v ∙ length-set P n i ∙ s
+      long false v = ap length v ∙ s
 
-pub same-places : (K P : List ℕ) (i j n : ℕ) → Placed K P i n → i ≡ j → P ≡ sets (replicate 256 0) 0 (lettersFrom 0 (take j K))
-same-places K P i j n a e = a .places ∙ ap (λ (m : ℕ). sets (replicate 256 0) 0 (lettersFrom 0 (take m K))) e
+pub same-places : (T P : List ℕ) (i j n : ℕ) → Placed T P i n → i ≡ j → P ≡ sets (replicate 256 0) 0 (lettersFrom 0 (kinds (take j T)))
+same-places T P i j n a e = a .places ∙ ap (λ (m : ℕ). sets (replicate 256 0) 0 (lettersFrom 0 (kinds (take m T)))) e
 
 -- what one row of kind k adds to n letters with the places P
 abbrev Adds : (k n row : ℕ) (P : List ℕ) (m : ℕ) (Q : List ℕ) → Type 0

@@ -1,13 +1,13 @@
 -- The rows that are stored are those of meaning's table. Assumes nothing.
 use mathlib.Core.Path.{_≡_, sym, _∙_, ap, ap₂}
-use mathlib.Core.List.{List, [], _∷_, _++_, map, map-append, map-map}
+use mathlib.Core.List.{List, [], _∷_, _++_, map, map-append}
 use Prim.Native.Nat.{ℕ, suc, _+_}
 use native.Mathlib.Omega.{arith}
 use Rattle.meaning.specs.Expression.{Exp, letter, seq, alt, star, pipe, size, rows, renumbered, Ordered}
 use Rattle.meaning.specs.Table.{Row, laid}
 use Rattle.meaning.proofs.Numbering.{renumbered-size, renumbered-rows}
 use Rattle.rules.specs.Cells.{Denotes}
-use Rattle.rules.specs.Laying.{RowCode, rowCode, rowCodes, kindCode, leftCode, codeOf, ExpAt}
+use Rattle.rules.specs.Laying.{RowCode, rowCode, rowCodes, codeOf, ExpAt}
 
 -- the rows of two operands
 two : (x : RowCode) (l : ℕ) (xs ys : List RowCode) (us vs : List Row) → xs ≡ map (codeOf l) us → ys ≡ map (codeOf l) vs
@@ -28,23 +28,6 @@ codes-laid r up l k n (star e) q o = ap (λ (a : List RowCode). rowCode 3 (suc r
 codes-laid r up l k n (pipe e f) q (o, u) =
     two _ l _ _ (laid (suc r) r e) (laid (suc r + rows e) r f) (codes-laid (suc r) r l k n e q o)
     (codes-laid (suc r + rows e) r l (k + size e) (n + size e) f (omega arith) u)
-
--- each of the four lists
-module _ (r up l k n : ℕ) (e : Exp) (q : n ≡ l + k) (o : Ordered k e) where
-  by : (f : RowCode → ℕ) → map f (rowCodes r up n e) ≡ map (λ x. f (codeOf l x)) (laid r up e)
-  by f = ap (map f) (codes-laid r up l k n e q o) ∙ map-map f (codeOf l) (laid r up e)
-
-  pub kinds-laid : map (λ x. x .kind) (rowCodes r up n e) ≡ map (λ x. kindCode (x .kind)) (laid r up e)
-  kinds-laid = by (λ x. x .kind)
-
-  pub lefts-laid : map (λ x. x .left) (rowCodes r up n e) ≡ map (λ x. leftCode l (x .left) (x .kind)) (laid r up e)
-  lefts-laid = by (λ x. x .left)
-
-  pub rights-laid : map (λ x. x .right) (rowCodes r up n e) ≡ map (λ x. x .right) (laid r up e)
-  rights-laid = by (λ x. x .right)
-
-  pub ups-laid : map (λ x. x .up) (rowCodes r up n e) ≡ map (λ x. x .up) (laid r up e)
-  ups-laid = by (λ x. x .up)
 
 -- what stands at a node may be numbered as one likes
 denotes-numbered : (P : List ℕ) (c n k : ℕ) (e : Exp) → Denotes P c n e → Denotes P c n (renumbered k e)

@@ -16,7 +16,7 @@ use Rattle.meaning.proofs.ListLaws.{cons-∈, no-∈}
 use Rattle.meaning.proofs.Within.{count-append}
 use Rattle.meaning.proofs.Masks.{look-append, want-append, sized-append, agree-append, agree-one}
 use Rattle.rules.specs.declared.literals.Condition.{Condition}
-use Rattle.rules.specs.Words.{part0, part1, part2}
+use Rattle.words.specs.Words.{part0, part1, part2}
 use Rattle.rules.specs.Cells.{at, Link, link, LinkAt, Links, testsOn}
 use Rattle.rules.specs.Conditions.{MasksAre, TestsAre, ConditionIs, Joined, Linked, LinkedBoth}
 use Rattle.rules.proofs.Put.{extends-refl}

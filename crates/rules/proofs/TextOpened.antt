@@ -13,6 +13,7 @@ use Rattle.meaning.specs.Expression.{Exp, rows, renumbered}
 use Rattle.meaning.specs.Reading.{noNames, statement, readOn, read}
 use Rattle.meaning.specs.Opening.{Opened, asOpened, openProgram, andOpen, openText}
 use Rattle.meaning.proofs.Openings.{rows-fit}
+use Rattle.shape.specs.Walk.{kinds}
 use Rattle.rules.specs.declared.Watch.{Watch}
 use Rattle.rules.specs.declared.Outcome.{Outcome}
 use Rattle.rules.specs.declared.Outcome.the-variants.{Open, AtByte, AtLetter}
@@ -20,7 +21,7 @@ use Rattle.rules.specs.declared.opening.Opening.{Opening}
 use Rattle.rules.specs.Reads.{Unless}
 use Rattle.rules.specs.Monitors.{MonitorsAre, SomeMonitors, Arrays, Lists, withMonitors, AllStored, OpenedBy, byRules}
 use Rattle.rules.specs.Statements.{Says, TextRead}
-use Rattle.rules.specs.Watches.{noLists, rowWords, lettersFrom, watchBy, watchOf, outcomeOf}
+use Rattle.rules.specs.Watches.{noLists, lettersFrom, watchBy, watchOf, outcomeOf}
 use Rattle.rules.proofs.Stepping.{well, ill}
 use Rattle.rules.proofs.AllMonitors.{program-opened}
 use Rattle.rules.proofs.Starting.{tables-renumbered}
@@ -39,10 +40,10 @@ unfolding openText read outcomeOf watchOf
 right-long text l o w p q = by-answer text (meaning.refused 1 (meaning.byte 0)) (ap (λ (b : Bool). andOpen (cond b (meaning.refused 1 (meaning.byte 0)) (readOn noNames statement (tokens text)))) (lt-ltb 16384 (length text) l)) o w p q
 
 -- a watch by its parts
-raw : Lists → (rows letters monitors wires stores : ℕ) → (kept marks places table : List ℕ) → Watch
-raw A r l n w s k m p t =
+raw : Lists → (rows letters monitors wires stores : ℕ) → (kept marks places : List ℕ) → Watch
+raw A r l n w s k m p =
     record {
-      table = t;
+      table = A .table;
       look = A .letters-of .look;
       want = A .letters-of .want;
       links = A .letters-of .links;
@@ -61,12 +62,12 @@ raw A r l n w s k m p t =
       stopped = false;
     }
 
-same-watch : (A B : Lists) (r r′ l l′ n n′ w w′ s : ℕ) (k m p t vs : List ℕ) → A ≡ B → r ≡ r′ → l ≡ l′ → n ≡ n′ → w ≡ w′ → s ≡ length vs
+same-watch : (A B : Lists) (r r′ l l′ n n′ w w′ s : ℕ) (k m p vs : List ℕ) → A ≡ B → r ≡ r′ → l ≡ l′ → n ≡ n′ → w ≡ w′ → s ≡ length vs
     → k ≡ sets (replicate 16 0) 0 vs → m ≡ sets (replicate 288 0) 256 (replicate n′ 1)
-    → p ≡ sets (replicate 256 0) 0 (lettersFrom 0 (take r (A .rows-of .kind))) → t ≡ sets (replicate 1024 0) 0 (rowWords r (A .rows-of))
-    → raw A r l n w s k m p t ≡ watchBy B r′ l′ n′ w′ vs
+    → p ≡ sets (replicate 256 0) 0 (lettersFrom 0 (kinds (take r (A .table))))
+    → raw A r l n w s k m p ≡ watchBy B r′ l′ n′ w′ vs
 unfolding raw
-same-watch A B r r′ l l′ n n′ w w′ s k m p t vs a b c d e f g h i j = rw (i, j, a, b, c, d, e, f, g, h)
+same-watch A B r r′ l l′ n n′ w w′ s k m p vs a b c d e f g h i = rw (i, a, b, c, d, e, f, g, h)
 
 module _ (text : List ℕ) (short : length text ≤ 16384) (f pos free wires stores count : ℕ) (Q S M : List ℕ) (t : TextRead text f pos free wires stores count Q S M) where
   opens : openText text ≡ andOpen (readOn noNames statement (tokens text))
@@ -85,11 +86,11 @@ module _ (text : List ℕ) (short : length text ≤ 16384) (f pos free wires sto
     pub some-monitors : SomeMonitors Q M count
     some-monitors = (free, says .program .monitors, says .monitors)
 
-    pub zero-arrays : Arrays (noLists .rows-of) (noLists .letters-of)
+    pub zero-arrays : Arrays (noLists .table) (noLists .letters-of)
     zero-arrays =
         let a = length-replicate {A = ℕ} 1024 0 in
         let b = length-replicate {A = ℕ} 256 0 in
-        record { kinds = a; lefts = a; rights = a; ups = a; looks = b; wants = b; links = a; numbers = a }
+        record { table = a; looks = b; wants = b; links = a; numbers = a }
 
     module _ (A : Lists) (r : Opening) (by : (c : ℕ) (ms : List Exp) → MonitorsAre Q c M count ms → OpenedBy (byRules ms) ms noLists A r) where
       opened : Unless (r .fault) ((openProgram (says .program) ≡ meaning.value (asOpened (says .program))) × AllStored (says .program .monitors) noLists A (r .rows) (r .letters))
@@ -107,10 +108,10 @@ module _ (text : List ℕ) (short : length text ≤ 16384) (f pos free wires sto
           let (e, s) = well opened y in
           omega (arith, s .row-count, rows-fit text (asOpened (says .program)) (opens ∙ ap andOpen (says .reads) ∙ e))
 
-      pub right-open : r .fault ≡ 0 → (kept marks places table : List ℕ) → kept ≡ sets (replicate 16 0) 0 (take stores S) → marks ≡ sets (replicate 288 0) 256 (replicate count 1)
-          → places ≡ sets (replicate 256 0) 0 (lettersFrom 0 (take (r .rows) (A .rows-of .kind))) → table ≡ sets (replicate 1024 0) 0 (rowWords (r .rows) (A .rows-of))
+      pub right-open : r .fault ≡ 0 → (kept marks places : List ℕ) → kept ≡ sets (replicate 16 0) 0 (take stores S) → marks ≡ sets (replicate 288 0) 256 (replicate count 1)
+          → places ≡ sets (replicate 256 0) 0 (lettersFrom 0 (kinds (take (r .rows) (A .table))))
           → Right text (Open (r .rows) (r .letters)) (record {
-            table = table;
+            table = A .table;
             look = A .letters-of .look;
             want = A .letters-of .want;
             links = A .letters-of .links;
@@ -129,12 +130,12 @@ module _ (text : List ℕ) (short : length text ≤ 16384) (f pos free wires sto
             stopped = false;
           })
       unfolding outcomeOf watchOf asOpened raw
-      right-open y kept marks places table k m x z =
+      right-open y kept marks places k m x =
           let (e, s) = well opened y in
           let p = says .program in
           let n : count ≡ length (map (renumbered 0) (p .monitors)) = says .monitors .number ∙ sym (length-map (p .monitors) (renumbered 0)) in
           by-answer text (meaning.value (asOpened p)) (opens ∙ ap andOpen (says .reads) ∙ e) _ _
           (ap₂ Open (s .row-count) (s .letter-count))
-          (same-watch A (withMonitors noLists 0 0 0 (map (renumbered 0) (p .monitors))) (r .rows) _ (r .letters) _ count _ wires _ stores kept marks places table (p .initial)
+          (same-watch A (withMonitors noLists 0 0 0 (map (renumbered 0) (p .monitors))) (r .rows) _ (r .letters) _ count _ wires _ stores kept marks places (p .initial)
           (s .tables ∙ sym (tables-renumbered noLists 0 0 0 (p .monitors))) (s .row-count) (s .letter-count) n (says .width) (says .number)
-          (k ∙ ap (sets (replicate 16 0) 0) (says .values)) (m ∙ ap (λ (q : ℕ). sets (replicate 288 0) 256 (replicate q 1)) n) x z)
+          (k ∙ ap (sets (replicate 16 0) 0) (says .values)) (m ∙ ap (λ (q : ℕ). sets (replicate 288 0) 256 (replicate q 1)) n) x)

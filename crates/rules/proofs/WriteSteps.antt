@@ -14,7 +14,7 @@ use Rattle.meaning.specs.Answers.{Answer, refused, byte}
 use Rattle.meaning.specs.Reading.{Names, Expect, Program, go, fault, sign, step, choose, unless, atToken, ifNumber, writeStore, writeValue, writeMore}
 use Rattle.rules.specs.declared.tokens.Seen.{Seen}
 use Rattle.rules.specs.Seen.{seen, Sees}
-use Rattle.rules.specs.Words.{part0, part1}
+use Rattle.words.specs.Words.{part0, part1}
 use Rattle.rules.specs.Cells.{at, Link, link, Links, writeLink, writesOn, Cells, Declared}
 use Rattle.rules.specs.Picks.{Picks}
 use Rattle.rules.specs.Reads.{readFrom, Unless, fine, faulted, Past, Behind}

@@ -12,7 +12,7 @@ use Rattle.meaning.specs.Shape.{nullable, agree, AllSized, SizedLetters}
 use Rattle.meaning.specs.Masks.{look, want}
 use Rattle.meaning.specs.Summary.{counted, impossibleAt, hollowAt}
 use Rattle.meaning.specs.Reading.{Meaning, anInput, aStore, aDefine, aProduction, storeTests}
-use Rattle.rules.specs.Words.{part0, part1, part2, part3}
+use Rattle.words.specs.Words.{part0, part1, part2, part3}
 
 -- the word at an index
 abbrev pub at : List ℕ → ℕ → ℕ

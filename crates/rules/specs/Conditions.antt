@@ -17,7 +17,7 @@ use Rattle.rules.specs.declared.literals.Literals.{Literals}
 use Rattle.rules.specs.Cells.{at, Link, LinkAt, Links, testsOn, Cells}
 use Rattle.rules.specs.declared.tokens.Seen.{Seen}
 use Rattle.rules.specs.Seen.{seen}
-use Rattle.rules.specs.Words.{part3}
+use Rattle.words.specs.Words.{part3}
 use Rattle.rules.specs.Reads.{readFrom, Unless}
 
 -- ---- words

@@ -8,7 +8,7 @@ use Rattle.lexer.specs.Tokens.{tokenAt}
 use Rattle.meaning.specs.Answers.{refused, byte}
 use Rattle.meaning.specs.Reading.{Meaning, Names, Declaration, Expect, sign, closing, go, newName, step}
 use Rattle.rules.specs.declared.declarations.Scope.{Scope}
-use Rattle.rules.specs.Words.{part1, part2, part3}
+use Rattle.words.specs.Words.{part1, part2, part3}
 use Rattle.rules.specs.Cells.{at, Means}
 use Rattle.rules.specs.Reads.{readFrom, Unless}
 use Rattle.rules.specs.Conditions.{Extends}

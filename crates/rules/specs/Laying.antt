@@ -11,7 +11,7 @@ use Rattle.meaning.specs.Lists.{each}
 use Rattle.meaning.specs.Expression.{Letter, Exp, letter, seq, alt, star, pipe, letters, size, rows}
 use Rattle.meaning.specs.Masks.{look, want}
 use Rattle.meaning.specs.Table.{Row, Kind, is-letter, is-seq, is-alt, is-star, is-pipe}
-use Rattle.rules.specs.Words.{quad}
+use Rattle.words.specs.Words.{quad}
 use Rattle.rules.specs.Cells.{Link, testsOn, writesOn, LinkAt, Links, Denotes}
 
 -- ---- rows
@@ -53,21 +53,13 @@ leftCode l left is-pipe = left
 abbrev pub codeOf : (l : ℕ) → Row → RowCode
 codeOf l x = rowCode (kindCode (x .kind)) (leftCode l (x .left) (x .kind)) (x .right) (x .up)
 
--- the rows of a table as four lists
-pub record RowLists : Type 0 where
-  pub kind : List ℕ
-  pub left : List ℕ
-  pub right : List ℕ
-  pub up : List ℕ
+-- a row in one word
+abbrev pub rowWord : RowCode → ℕ
+rowWord x = quad (x .kind) (x .left) (x .right) (x .up)
 
-abbrev pub rowLists : (kind left right up : List ℕ) → RowLists
-rowLists k left right up = record { kind = k; left = left; right = right; up = up }
-
--- with rows stored from row r on
-abbrev pub withRows : RowLists → (r : ℕ) → List RowCode → RowLists
-withRows A r xs =
-    rowLists (sets (A .kind) r (map (λ x. x .kind) xs)) (sets (A .left) r (map (λ x. x .left) xs)) (sets (A .right) r (map (λ x. x .right) xs))
-    (sets (A .up) r (map (λ x. x .up) xs))
+-- a table with rows stored from row r on
+abbrev pub withRows : List ℕ → (r : ℕ) → List RowCode → List ℕ
+withRows T r xs = sets T r (map rowWord xs)
 
 -- ---- letters
 
@@ -163,8 +155,8 @@ abbrev pub SomeExp : List ℕ → (node row index : ℕ) → Type 0
 SomeExp P node row index = (c : ℕ) × (e : Exp) × ExpAt P c node row index e
 
 -- its rows and letters are stored, and what comes next is known
-pub record Stored (row up index : ℕ) (e : Exp) (R R′ : RowLists) (L L′ : LetterLists) (r l : ℕ) : Type 0 where
-  pub rows-stored : R′ ≡ withRows R row (rowCodes row up index e)
+pub record Stored (row up index : ℕ) (e : Exp) (T T′ : List ℕ) (L L′ : LetterLists) (r l : ℕ) : Type 0 where
+  pub rows-stored : T′ ≡ withRows T row (rowCodes row up index e)
   pub letters-stored : L′ ≡ withLetters L index (letters e)
   pub next-row : r ≡ row + rows e
   pub next-letter : l ≡ index + size e

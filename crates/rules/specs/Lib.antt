@@ -1,5 +1,4 @@
 -- Watches says what `open` answers with, by Laying and Monitors; this is what a reader must believe. The others say what the inner functions have and promise.
-pub mod Words
 pub mod Seen
 pub mod Cells
 pub mod Reads

@@ -10,10 +10,11 @@ use Rattle.meaning.specs.Answers.{Answer, refused, letterOf}
 use Rattle.meaning.specs.Expression.{Exp, letters, size, rows, renumbered}
 use Rattle.meaning.specs.Shape.{Shape, accepted, turned-away, shape}
 use Rattle.meaning.specs.Opening.{Opened, tooLong, misshapen}
+use Rattle.shape.specs.Walk.{kinds, lefts, rights}
 use Rattle.shape.specs.Judge.{judgeOf, shownJudged}
 use Rattle.rules.specs.Cells.{ProductionAt}
 use Rattle.rules.specs.Reads.{Unless}
-use Rattle.rules.specs.Laying.{RowCode, rowCodes, RowLists, withRows, LetterLists, withLetters, Stored}
+use Rattle.rules.specs.Laying.{RowCode, rowCodes, withRows, LetterLists, withLetters, Stored}
 use Rattle.rules.specs.declared.opening.Opening.{Opening}
 
 -- ---- monitors
@@ -45,11 +46,8 @@ FirstLong ms count r =
 -- ---- one monitor
 
 -- the lists are as long as a watch's arrays
-pub record Arrays (R : RowLists) (L : LetterLists) : Type 0 where
-  pub kinds : length (R .kind) ≡ 1024
-  pub lefts : length (R .left) ≡ 1024
-  pub rights : length (R .right) ≡ 1024
-  pub ups : length (R .up) ≡ 1024
+pub record Arrays (T : List ℕ) (L : LetterLists) : Type 0 where
+  pub table : length T ≡ 1024
   pub looks : length (L .look) ≡ 256
   pub wants : length (L .want) ≡ 256
   pub links : length (L .links) ≡ 1024
@@ -70,14 +68,14 @@ abbrev pub Answers : (fault letter : ℕ) → Shape → Type 0
 Answers f n s = Unless f (s ≡ accepted) (s ≡ turned-away f n)
 
 -- it is stored, and rules 11 and 12 are asked of its rows
-pub record Ruled (row index : ℕ) (e : Exp) (R R′ : RowLists) (L L′ : LetterLists) (f n r l : ℕ) : Type 0 where
-  pub stored : Stored row row index e R R′ L L′ r l
-  pub answers : Answers f n (shownJudged (judgeOf (R′ .kind) (R′ .left) (R′ .right) (L′ .look) (L′ .want) row index l))
+pub record Ruled (row index : ℕ) (e : Exp) (T T′ : List ℕ) (L L′ : LetterLists) (f n r l : ℕ) : Type 0 where
+  pub stored : Stored row row index e T T′ L L′ r l
+  pub answers : Answers f n (shownJudged (judgeOf (kinds T′) (lefts T′) (rights T′) (L′ .look) (L′ .want) row index l))
 
 -- rules 9 to 12, and what is stored where they are kept
-pub record Opens (row index : ℕ) (m : Exp) (R R′ : RowLists) (L L′ : LetterLists) (f n r l : ℕ) : Type 0 where
+pub record Opens (row index : ℕ) (m : Exp) (T T′ : List ℕ) (L L′ : LetterLists) (f n r l : ℕ) : Type 0 where
   pub answers : Answers f n (shape (renumbered 0 m))
-  pub stored : f ≡ 0 → Stored row row index m R R′ L L′ r l
+  pub stored : f ≡ 0 → Stored row row index m T T′ L L′ r l
 
 -- ---- all monitors
 
@@ -93,18 +91,18 @@ startsBy f n (m ∷ ms) = n ∷ startsBy f (n + f m) ms
 
 -- the arrays of a table: rows, letters, and each monitor's own row and first letter
 pub record Lists : Type 0 where
-  pub rows-of : RowLists
+  pub table : List ℕ
   pub letters-of : LetterLists
   pub own : List ℕ
   pub firsts : List ℕ
 
-abbrev pub lists : RowLists → LetterLists → (own firsts : List ℕ) → Lists
-lists R L S F = record { rows-of = R; letters-of = L; own = S; firsts = F }
+abbrev pub lists : (table : List ℕ) → LetterLists → (own firsts : List ℕ) → Lists
+lists T L S F = record { table = T; letters-of = L; own = S; firsts = F }
 
 -- with monitors stored: the next one has the number i, the row r and the first letter l
 abbrev pub withMonitors : Lists → (i r l : ℕ) → List Exp → Lists
 withMonitors A i r l ms =
-    lists (withRows (A .rows-of) r (codesAll r l ms)) (withLetters (A .letters-of) l (each ms letters)) (sets (A .own) i (startsBy rows r ms))
+    lists (withRows (A .table) r (codesAll r l ms)) (withLetters (A .letters-of) l (each ms letters)) (sets (A .own) i (startsBy rows r ms))
     (sets (A .firsts) i (startsBy size l ms))
 
 -- all monitors are stored, and both counts are told

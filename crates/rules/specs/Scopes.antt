@@ -13,7 +13,7 @@ use Rattle.meaning.specs.Answers.{refused, byte, oversize}
 use Rattle.meaning.specs.Reading.{Names, Expect, statement, toZero, Step, go, fault, is, choose, unless, notHere, newName, onNumber, step}
 use Rattle.rules.specs.declared.declarations.Scope.{Scope}
 use Rattle.rules.specs.declared.declarations.Declared.{Declared}
-use Rattle.rules.specs.Words.{part0, part1, part2, part3}
+use Rattle.words.specs.Words.{part0, part1, part2, part3}
 use Rattle.rules.specs.Cells.{at, Cells}
 use Rattle.rules.specs.Reads.{readFrom, Unless, Past, placed}
 use Rattle.rules.specs.Conditions.{Extends, Room, Spent}

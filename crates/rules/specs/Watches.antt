@@ -1,14 +1,14 @@
 -- What `open` answers with: the counts and a watch, or a refusal and an empty watch. Assumes nothing.
 use mathlib.Core.Bool.{false, cond}
-use mathlib.Core.List.{List, [], _∷_, _++_}
-use Prim.Native.Nat.{ℕ, zero, suc}
+use mathlib.Core.List.{List, [], _∷_}
+use Prim.Native.Nat.{ℕ, suc}
 use lib.Dec.{eqb}
-use lib.ListN.{length, getD, take, replicate}
+use lib.ListN.{length, take, replicate}
 use lib.Seq.{sets}
 use Rattle.meaning.specs.Answers as meaning
 use Rattle.meaning.specs.Opening.{Opened}
-use Rattle.rules.specs.Words.{quad}
-use Rattle.rules.specs.Laying.{RowLists, rowLists, letterLists}
+use Rattle.shape.specs.Walk.{kinds}
+use Rattle.rules.specs.Laying.{letterLists}
 use Rattle.rules.specs.Monitors.{Lists, lists, withMonitors}
 use Rattle.rules.specs.declared.Watch.{Watch}
 use Rattle.rules.specs.declared.Outcome.{Outcome}
@@ -17,17 +17,7 @@ use Rattle.rules.specs.declared.Outcome.the-variants.{Open, AtByte, AtLe
 -- no rows, no letters, no monitors
 abbrev pub noLists : Lists
 noLists =
-    lists (rowLists (replicate 1024 0) (replicate 1024 0) (replicate 1024 0) (replicate 1024 0))
-    (letterLists (replicate 256 0) (replicate 256 0) (replicate 1024 0) (replicate 1024 0)) (replicate 32 0) (replicate 32 0)
-
--- a row in one word: its kind, its left operand's row or its letter, its right operand's row, the row above it
-abbrev pub rowWord : RowLists → ℕ → ℕ
-rowWord A r = quad (getD (A .kind) r 0) (getD (A .left) r 0) (getD (A .right) r 0) (getD (A .up) r 0)
-
--- the first n rows
-unfoldable pub rowWords : ℕ → RowLists → List ℕ
-rowWords zero A = []
-rowWords (suc n) A = rowWords n A ++ (rowWord A n ∷ [])
+    lists (replicate 1024 0) (letterLists (replicate 256 0) (replicate 256 0) (replicate 1024 0) (replicate 1024 0)) (replicate 32 0) (replicate 32 0)
 
 -- the rows of letters, those of kind 0, among rows of these kinds from row r on
 unfoldable pub lettersFrom : (r : ℕ) → (kinds : List ℕ) → List ℕ
@@ -38,12 +28,12 @@ lettersFrom r (k ∷ ks) = cond (eqb k 0) (r ∷ lettersFrom (suc r) ks) (letter
 abbrev pub watchBy : Lists → (rows letters monitors wires : ℕ) → (initial : List ℕ) → Watch
 watchBy A r l m w vs =
     record {
-      table = sets (replicate 1024 0) 0 (rowWords r (A .rows-of));
+      table = A .table;
       look = A .letters-of .look;
       want = A .letters-of .want;
       links = A .letters-of .links;
       numbers = A .letters-of .numbers;
-      places = sets (replicate 256 0) 0 (lettersFrom 0 (take r (A .rows-of .kind)));
+      places = sets (replicate 256 0) 0 (lettersFrom 0 (kinds (take r (A .table))));
       own = A .own;
       firsts = A .firsts;
       rows = r;

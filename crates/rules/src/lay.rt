@@ -1,19 +1,19 @@
 // Laying the rows and letters of an expression: from the words that a text is read into to the lists of numbers that a
 // watch's table has (specs/Laying.antt).
-use super::words::part0;
-use super::words::part1;
-use super::words::part2;
-use super::words::part3;
-use super::words::quad;
+use words::part0;
+use words::part1;
+use words::part2;
+use words::part3;
+use words::quad;
 ghost use mathlib.Core.Path.{_≡_};
 ghost use mathlib.Core.List.{List, [], _∷_, map};
 ghost use mathlib.Core.Option.{Option};
 ghost use Prim.Native.Nat.{ℕ, _+_, _<_};
 ghost use lib.Seq.{sets};
 ghost use Rattle.meaning.specs.Expression.{Letter, Exp};
-ghost use Rattle.rules.specs.Words.{part0, part1, part2};
+ghost use Rattle.words.specs.Words.{part0, part1, part2};
 ghost use Rattle.rules.specs.Cells.{Link, Links};
-ghost use Rattle.rules.specs.Laying.{rowCode, rowLists, withRows, linkWord, ones, linkNumber, slotWord, slotNumber, twoSlots, behind, letterLists, withLetters, SlotAt, SomeSlot, LinksAt, SomeLinks, LetterAt, SomeLetter, ExpAt, SomeExp, Stored};
+ghost use Rattle.rules.specs.Laying.{rowCode, withRows, linkWord, ones, linkNumber, slotWord, slotNumber, twoSlots, behind, letterLists, withLetters, SlotAt, SomeSlot, LinksAt, SomeLinks, LetterAt, SomeLetter, ExpAt, SomeExp, Stored};
 
 // The kinds of rows that are told apart: a letter, and a star.
 const LETTER: usize = 0;
@@ -149,24 +149,11 @@ fn put_letter(
 }
 
 // Stores a row.
-fn put_row(
-    row: usize,
-    k: usize,
-    l: usize,
-    r: usize,
-    u: usize,
-    kind: &mut [u8; 1024],
-    left: &mut [u16; 1024],
-    right: &mut [u16; 1024],
-    up: &mut [u16; 1024],
-)
-    requires { ⌜ (row < 1024) × (k < 5) × (l < 1024) × (r < 1024) × (u < 1024) ⌝ }
-    ensures { λ _. ⌜ rowLists (now (kind .exit)) (now (left .exit)) (now (right .exit)) (now (up .exit)) ≡ withRows (rowLists (now (kind .entry)) (now (left .entry)) (now (right .entry)) (now (up .entry))) row (rowCode k l r u ∷ []) ⌝ }
+fn put_row(row: usize, k: usize, l: usize, r: usize, u: usize, table: &mut [u64; 1024])
+    requires { ⌜ row < 1024 ⌝ }
+    ensures { λ _. ⌜ now (table .exit) ≡ withRows (now (table .entry)) row (rowCode k l r u ∷ []) ⌝ }
 {
-    kind[row] = k as u8;
-    left[row] = l as u16;
-    right[row] = r as u16;
-    up[row] = u as u16;
+    table[row] = quad(k, l, r, u);
 }
 
 // The next row and letter.
@@ -182,19 +169,16 @@ pub(crate) fn lay(
     row: usize,
     above: usize,
     letter: usize,
-    kind: &mut [u8; 1024],
-    left: &mut [u16; 1024],
-    right: &mut [u16; 1024],
-    up: &mut [u16; 1024],
+    table: &mut [u64; 1024],
     look: &mut [u64; 256],
     want: &mut [u64; 256],
     links: &mut [u64; 1024],
     numbers: &mut [u64; 1024],
 ) -> Laid
-    requires { ⌜ (above < 1024) × SomeExp (now words) node row letter ⌝ }
+    requires { ⌜ SomeExp (now words) node row letter ⌝ }
     ensures { λ r. ⌜ ((c : ℕ) → (e : Exp) → ExpAt (now (words .entry)) c node row letter e
         → Stored row above letter e
-        (rowLists (now (kind .entry)) (now (left .entry)) (now (right .entry)) (now (up .entry))) (rowLists (now (kind .exit)) (now (left .exit)) (now (right .exit)) (now (up .exit)))
+        (now (table .entry)) (now (table .exit))
         (letterLists (now (look .entry)) (now (want .entry)) (now (links .entry)) (now (numbers .entry))) (letterLists (now (look .exit)) (now (want .exit)) (now (links .exit)) (now (numbers .exit)))
         (r .row) (r .letter)) ⌝ }
 {
@@ -202,7 +186,7 @@ pub(crate) fn lay(
     let k = part0(head);
     if k == LETTER {
         put_letter(words, node, letter, look, want, links, numbers);
-        put_row(row, LETTER, letter, 0, above, kind, left, right, up);
+        put_row(row, LETTER, letter, 0, above, table);
         return Laid {
             row: row + 1,
             letter: letter + 1,
@@ -214,10 +198,7 @@ pub(crate) fn lay(
         row + 1,
         row,
         letter,
-        kind,
-        left,
-        right,
-        up,
+        table,
         look,
         want,
         links,
@@ -225,7 +206,7 @@ pub(crate) fn lay(
     );
     let next = first.row;
     if k == STAR {
-        put_row(row, STAR, row + 1, 0, above, kind, left, right, up);
+        put_row(row, STAR, row + 1, 0, above, table);
         return first;
     }
     let from = first.letter;
@@ -235,15 +216,12 @@ pub(crate) fn lay(
         next,
         row,
         from,
-        kind,
-        left,
-        right,
-        up,
+        table,
         look,
         want,
         links,
         numbers,
     );
-    put_row(row, k, row + 1, next, above, kind, left, right, up);
+    put_row(row, k, row + 1, next, above, table);
     second
 }

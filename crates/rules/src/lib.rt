@@ -9,12 +9,11 @@ mod opening;
 mod parts;
 mod statements;
 mod tokens;
-mod words;
 mod writes;
 
 use opening::open_monitors;
 use statements::read;
-use words::quad;
+use words::part0;
 ghost use mathlib.Core.Path.{_≡_};
 ghost use mathlib.Core.Bool.{cond};
 ghost use lib.Dec.{eqb};
@@ -23,11 +22,10 @@ ghost use lib.Seq.{sets};
 ghost use Prim.Native.Nat.{_+_, _*_, _<_, _≤_};
 ghost use Rattle.meaning.specs.Opening.{openText};
 ghost use mathlib.Core.List.{[]};
-ghost use Rattle.rules.specs.Words.{quad};
-ghost use Rattle.rules.specs.Laying.{rowLists};
-ghost use Rattle.rules.specs.Watches.{noLists, rowWords, lettersFrom, watchBy, watchOf, outcomeOf};
+ghost use Rattle.shape.specs.Walk.{kinds};
+ghost use Rattle.rules.specs.Watches.{noLists, lettersFrom, watchBy, watchOf, outcomeOf};
 
-// A watch. Each row in one word (specs/Watches.antt); letters as `lay` has them (specs/Laying.antt); each letter's row; each
+// A watch. Each row in one word, and letters, as `lay` has them (specs/Laying.antt); each letter's row; each
 // monitor's own row and first letter; how many rows, letters, monitors, wires and stores there are; the store values; a mark
 // for each active letter and, from 256 on, for each monitor at its start; how many ticks were ok, and whether one was bad.
 pub struct Watch {
@@ -87,35 +85,8 @@ fn no_watch() -> Watch
     }
 }
 
-// A row in one word.
-fn row_word(k: u8, l: u16, r: u16, u: u16) -> u64
-    ensures { λ x. ⌜ x ≡ quad k l r u ⌝ }
-{
-    quad(k as usize, l as usize, r as usize, u as usize)
-}
-
-// The first rows, each in one word: its kind, its left operand or its letter, its right operand, the row above it.
-fn row_words(
-    kind: &[u8; 1024],
-    left: &[u16; 1024],
-    right: &[u16; 1024],
-    up: &[u16; 1024],
-    rows: usize,
-) -> [u64; 1024]
-    requires { ⌜ (rows ≤ 1024) × (length (now kind) ≡ 1024) × (length (now left) ≡ 1024) × (length (now right) ≡ 1024) × (length (now up) ≡ 1024) ⌝ }
-    ensures { λ r. ⌜ r ≡ sets (replicate 1024 0) 0 (rowWords rows (rowLists (now (kind .entry)) (now (left .entry)) (now (right .entry)) (now (up .entry)))) ⌝ }
-{
-    let mut table = [0u64; 1024];
-    let mut row: usize = 0;
-    while row < rows {
-        table[row] = row_word(kind[row], left[row], right[row], up[row]);
-        row += 1;
-    }
-    table
-}
-
 // Stores a row that has the kind 0 as the place of the next letter; says how many letters there are then.
-fn place_letter(k: u8, row: usize, count: usize, places: &mut [u16; 256]) -> usize
+fn place_letter(k: usize, row: usize, count: usize, places: &mut [u16; 256]) -> usize
     requires { ⌜ (row < 1024) × (count ≤ row) × (length (now places) ≡ 256) ⌝ }
     ensures { λ r. ⌜ (r ≡ cond (eqb k 0) (count + 1) count) × (now (places .exit) ≡ cond (eqb k 0) (set (now (places .entry)) count row) (now (places .entry))) ⌝ }
 {
@@ -130,15 +101,15 @@ fn place_letter(k: u8, row: usize, count: usize, places: &mut [u16; 256]) -> usi
 }
 
 // The row of each letter: of the first rows, those of kind 0 in order.
-fn letter_rows(kind: &[u8; 1024], rows: usize) -> [u16; 256]
-    requires { ⌜ (rows ≤ 1024) × (length (now kind) ≡ 1024) ⌝ }
-    ensures { λ r. ⌜ r ≡ sets (replicate 256 0) 0 (lettersFrom 0 (take rows (now (kind .entry)))) ⌝ }
+fn letter_rows(table: &[u64; 1024], rows: usize) -> [u16; 256]
+    requires { ⌜ (rows ≤ 1024) × (length (now table) ≡ 1024) ⌝ }
+    ensures { λ r. ⌜ r ≡ sets (replicate 256 0) 0 (lettersFrom 0 (kinds (take rows (now (table .entry))))) ⌝ }
 {
     let mut places = [0u16; 256];
     let mut count: usize = 0;
     let mut row: usize = 0;
     while row < rows {
-        count = place_letter(kind[row], row, count, &mut places);
+        count = place_letter(part0(table[row]), row, count, &mut places);
         row += 1;
     }
     places
@@ -191,10 +162,7 @@ fn open_in(text: &[u8], words: &mut [u64]) -> Start
     if r.fault != 0 {
         return refusal(Outcome::AtByte(r.fault, r.at));
     }
-    let mut kind = [0u8; 1024];
-    let mut left = [0u16; 1024];
-    let mut right = [0u16; 1024];
-    let mut up = [0u16; 1024];
+    let mut table = [0u64; 1024];
     let mut look = [0u64; 256];
     let mut want = [0u64; 256];
     let mut links = [0u64; 1024];
@@ -205,10 +173,7 @@ fn open_in(text: &[u8], words: &mut [u64]) -> Start
         words,
         &list,
         r.count,
-        &mut kind,
-        &mut left,
-        &mut right,
-        &mut up,
+        &mut table,
         &mut look,
         &mut want,
         &mut links,
@@ -221,8 +186,7 @@ fn open_in(text: &[u8], words: &mut [u64]) -> Start
     }
     let kept = first_values(&values, r.stores);
     let marks = start_marks(r.count);
-    let places = letter_rows(&kind, o.rows);
-    let table = row_words(&kind, &left, &right, &up, o.rows);
+    let places = letter_rows(&table, o.rows);
     let watch = Watch {
         table,
         look,

@@ -2,11 +2,11 @@
 // declared before it (0: none) and its place and length in the text, and then what it means (specs/Cells.antt).
 use super::tokens::NAME;
 use super::tokens::Seen;
-use super::words::part0;
-use super::words::part1;
-use super::words::part2;
-use super::words::part3;
 use lexer::equal;
+use words::part0;
+use words::part1;
+use words::part2;
+use words::part3;
 ghost use mathlib.Core.Path.{_≡_};
 ghost use Prim.Native.Nat.{ℕ, _-_, _≤_};
 ghost use lib.ListN.{length, take, drop};

@@ -1,19 +1,19 @@
 // Opening the monitors: rules 8 to 12, and the table with the rows and letters of all monitors one behind the other
 // (specs/Monitors.antt).
 use super::lay::lay;
-use super::words::part0;
-use super::words::part1;
-use super::words::part2;
-use super::words::part3;
 use shape::Judged;
 use shape::judge;
+use words::part0;
+use words::part1;
+use words::part2;
+use words::part3;
 ghost use mathlib.Core.Path.{_≡_};
 ghost use mathlib.Core.List.{List};
 ghost use Prim.Native.Nat.{ℕ, _≤_};
 ghost use lib.ListN.{length};
 ghost use Rattle.meaning.specs.Lists.{total};
 ghost use Rattle.meaning.specs.Expression.{Exp, size};
-ghost use Rattle.rules.specs.Laying.{rowLists, letterLists, ExpAt, SomeExp};
+ghost use Rattle.rules.specs.Laying.{letterLists, ExpAt, SomeExp};
 ghost use Rattle.rules.specs.Monitors.{MonitorsAre, SomeMonitors, FewLetters, FirstLong, Arrays, MonitorAt, SomeMonitor, Ruled, Opens, lists, OpenedBy, byShapes, byRules};
 
 // ---- rule 8
@@ -52,10 +52,7 @@ fn lay_one(
     node: usize,
     row: usize,
     first: usize,
-    kind: &mut [u8; 1024],
-    left: &mut [u16; 1024],
-    right: &mut [u16; 1024],
-    up: &mut [u16; 1024],
+    table: &mut [u64; 1024],
     look: &mut [u64; 256],
     want: &mut [u64; 256],
     links: &mut [u64; 1024],
@@ -64,7 +61,7 @@ fn lay_one(
     requires { ⌜ SomeExp (now words) node row first ⌝ }
     ensures { λ r. ⌜ ((c : ℕ) → (e : Exp) → ExpAt (now (words .entry)) c node row first e
         → Ruled row first e
-        (rowLists (now (kind .entry)) (now (left .entry)) (now (right .entry)) (now (up .entry))) (rowLists (now (kind .exit)) (now (left .exit)) (now (right .exit)) (now (up .exit)))
+        (now (table .entry)) (now (table .exit))
         (letterLists (now (look .entry)) (now (want .entry)) (now (links .entry)) (now (numbers .entry))) (letterLists (now (look .exit)) (now (want .exit)) (now (links .exit)) (now (numbers .exit)))
         (r .fault) (r .letter) (r .row) (r .next)) ⌝ }
 {
@@ -74,17 +71,14 @@ fn lay_one(
         row,
         row,
         first,
-        kind,
-        left,
-        right,
-        up,
+        table,
         look,
         want,
         links,
         numbers,
     );
     let end = laid.letter;
-    let judged = judge(kind, left, right, look, want, row, first, end);
+    let judged = judge(table, look, want, row, first, end);
     match judged {
         Judged::Fine => One {
             fault: 0,
@@ -113,22 +107,19 @@ fn open_one(
     cell: usize,
     row: usize,
     first: usize,
-    kind: &mut [u8; 1024],
-    left: &mut [u16; 1024],
-    right: &mut [u16; 1024],
-    up: &mut [u16; 1024],
+    table: &mut [u64; 1024],
     look: &mut [u64; 256],
     want: &mut [u64; 256],
     links: &mut [u64; 1024],
     numbers: &mut [u64; 1024],
 ) -> One
-    requires { ⌜ SomeMonitor (now words) cell row first × Arrays (rowLists (now kind) (now left) (now right) (now up)) (letterLists (now look) (now want) (now links) (now numbers)) ⌝ }
+    requires { ⌜ SomeMonitor (now words) cell row first × Arrays (now table) (letterLists (now look) (now want) (now links) (now numbers)) ⌝ }
     ensures { λ r. ⌜ ((c : ℕ) → (m : Exp) → MonitorAt (now (words .entry)) c cell row first m
         → Opens row first m
-        (rowLists (now (kind .entry)) (now (left .entry)) (now (right .entry)) (now (up .entry))) (rowLists (now (kind .exit)) (now (left .exit)) (now (right .exit)) (now (up .exit)))
+        (now (table .entry)) (now (table .exit))
         (letterLists (now (look .entry)) (now (want .entry)) (now (links .entry)) (now (numbers .entry))) (letterLists (now (look .exit)) (now (want .exit)) (now (links .exit)) (now (numbers .exit)))
         (r .fault) (r .letter) (r .row) (r .next))
-        × Arrays (rowLists (now (kind .exit)) (now (left .exit)) (now (right .exit)) (now (up .exit))) (letterLists (now (look .exit)) (now (want .exit)) (now (links .exit)) (now (numbers .exit))) ⌝ }
+        × Arrays (now (table .exit)) (letterLists (now (look .exit)) (now (want .exit)) (now (links .exit)) (now (numbers .exit))) ⌝ }
 {
     let known = words[cell + 2];
     let impossible = part2(known);
@@ -162,10 +153,7 @@ fn open_one(
         part0(words[cell + 1]),
         row,
         first,
-        kind,
-        left,
-        right,
-        up,
+        table,
         look,
         want,
         links,
@@ -189,10 +177,7 @@ fn lay_all(
     words: &[u64],
     monitors: &[u16; 32],
     count: usize,
-    kind: &mut [u8; 1024],
-    left: &mut [u16; 1024],
-    right: &mut [u16; 1024],
-    up: &mut [u16; 1024],
+    table: &mut [u64; 1024],
     look: &mut [u64; 256],
     want: &mut [u64; 256],
     links: &mut [u64; 1024],
@@ -200,13 +185,13 @@ fn lay_all(
     own: &mut [u16; 32],
     firsts: &mut [u16; 32],
 ) -> Opening
-    requires { ⌜ FewLetters (now words) (now monitors) count × Arrays (rowLists (now kind) (now left) (now right) (now up)) (letterLists (now look) (now want) (now links) (now numbers)) ⌝ }
+    requires { ⌜ FewLetters (now words) (now monitors) count × Arrays (now table) (letterLists (now look) (now want) (now links) (now numbers)) ⌝ }
     ensures { λ r. ⌜ ((c : ℕ) → (ms : List Exp) → MonitorsAre (now (words .entry)) c (now (monitors .entry)) count ms → total size ms ≤ 256
         → OpenedBy (byShapes ms) ms
-        (lists (rowLists (now (kind .entry)) (now (left .entry)) (now (right .entry)) (now (up .entry))) (letterLists (now (look .entry)) (now (want .entry)) (now (links .entry)) (now (numbers .entry))) (now (own .entry)) (now (firsts .entry)))
-        (lists (rowLists (now (kind .exit)) (now (left .exit)) (now (right .exit)) (now (up .exit))) (letterLists (now (look .exit)) (now (want .exit)) (now (links .exit)) (now (numbers .exit))) (now (own .exit)) (now (firsts .exit)))
+        (lists (now (table .entry)) (letterLists (now (look .entry)) (now (want .entry)) (now (links .entry)) (now (numbers .entry))) (now (own .entry)) (now (firsts .entry)))
+        (lists (now (table .exit)) (letterLists (now (look .exit)) (now (want .exit)) (now (links .exit)) (now (numbers .exit))) (now (own .exit)) (now (firsts .exit)))
         r)
-        × Arrays (rowLists (now (kind .exit)) (now (left .exit)) (now (right .exit)) (now (up .exit))) (letterLists (now (look .exit)) (now (want .exit)) (now (links .exit)) (now (numbers .exit)))
+        × Arrays (now (table .exit)) (letterLists (now (look .exit)) (now (want .exit)) (now (links .exit)) (now (numbers .exit)))
         × (length (now (own .exit)) ≡ length (now (own .entry))) × (length (now (firsts .exit)) ≡ length (now (firsts .entry))) ⌝ }
 {
     let mut row: usize = 0;
@@ -216,20 +201,7 @@ fn lay_all(
         own[i] = row as u16;
         firsts[i] = first as u16;
         let cell = monitors[i] as usize;
-        let one = open_one(
-            words,
-            cell,
-            row,
-            first,
-            kind,
-            left,
-            right,
-            up,
-            look,
-            want,
-            links,
-            numbers,
-        );
+        let one = open_one(words, cell, row, first, table, look, want, links, numbers);
         if one.fault != 0 {
             return Opening {
                 fault: one.fault,
@@ -257,10 +229,7 @@ pub(crate) fn open_monitors(
     words: &[u64],
     monitors: &[u16; 32],
     count: usize,
-    kind: &mut [u8; 1024],
-    left: &mut [u16; 1024],
-    right: &mut [u16; 1024],
-    up: &mut [u16; 1024],
+    table: &mut [u64; 1024],
     look: &mut [u64; 256],
     want: &mut [u64; 256],
     links: &mut [u64; 1024],
@@ -268,13 +237,13 @@ pub(crate) fn open_monitors(
     own: &mut [u16; 32],
     firsts: &mut [u16; 32],
 ) -> Opening
-    requires { ⌜ SomeMonitors (now words) (now monitors) count × Arrays (rowLists (now kind) (now left) (now right) (now up)) (letterLists (now look) (now want) (now links) (now numbers)) ⌝ }
+    requires { ⌜ SomeMonitors (now words) (now monitors) count × Arrays (now table) (letterLists (now look) (now want) (now links) (now numbers)) ⌝ }
     ensures { λ r. ⌜ ((c : ℕ) → (ms : List Exp) → MonitorsAre (now (words .entry)) c (now (monitors .entry)) count ms
         → OpenedBy (byRules ms) ms
-        (lists (rowLists (now (kind .entry)) (now (left .entry)) (now (right .entry)) (now (up .entry))) (letterLists (now (look .entry)) (now (want .entry)) (now (links .entry)) (now (numbers .entry))) (now (own .entry)) (now (firsts .entry)))
-        (lists (rowLists (now (kind .exit)) (now (left .exit)) (now (right .exit)) (now (up .exit))) (letterLists (now (look .exit)) (now (want .exit)) (now (links .exit)) (now (numbers .exit))) (now (own .exit)) (now (firsts .exit)))
+        (lists (now (table .entry)) (letterLists (now (look .entry)) (now (want .entry)) (now (links .entry)) (now (numbers .entry))) (now (own .entry)) (now (firsts .entry)))
+        (lists (now (table .exit)) (letterLists (now (look .exit)) (now (want .exit)) (now (links .exit)) (now (numbers .exit))) (now (own .exit)) (now (firsts .exit)))
         r)
-        × Arrays (rowLists (now (kind .exit)) (now (left .exit)) (now (right .exit)) (now (up .exit))) (letterLists (now (look .exit)) (now (want .exit)) (now (links .exit)) (now (numbers .exit)))
+        × Arrays (now (table .exit)) (letterLists (now (look .exit)) (now (want .exit)) (now (links .exit)) (now (numbers .exit)))
         × (length (now (own .exit)) ≡ length (now (own .entry))) × (length (now (firsts .exit)) ≡ length (now (firsts .entry))) ⌝ }
 {
     let long = first_long(words, monitors, count);
@@ -291,10 +260,7 @@ pub(crate) fn open_monitors(
         words,
         monitors,
         count,
-        kind,
-        left,
-        right,
-        up,
+        table,
         look,
         want,
         links,

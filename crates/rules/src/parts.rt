@@ -1,10 +1,10 @@
 // Expressions as they are read: each is a node among the words, with what rules 8, 9 and 10 ask of it (specs/Parts.antt).
 use super::literals::Condition;
-use super::words::part0;
-use super::words::part1;
-use super::words::part2;
-use super::words::part3;
-use super::words::quad;
+use words::part0;
+use words::part1;
+use words::part2;
+use words::part3;
+use words::quad;
 ghost use mathlib.Core.Path.{_≡_};
 ghost use mathlib.Core.Bool.{cond};
 ghost use mathlib.Core.Option.{Option, none, some};

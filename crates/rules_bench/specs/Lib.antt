@@ -1,1 +1,2 @@
+-- What the benchmark's functions answer.
 pub mod Packed

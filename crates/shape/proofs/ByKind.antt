@@ -1,11 +1,15 @@
 -- A step of the walk over the rows, by the row's kind. Assumes nothing.
-use mathlib.Core.List.{List}
+use mathlib.Core.List.{List, map}
 use mathlib.Core.Path.{_≡_, refl, sym, ap, _∙_}
 use Prim.Native.Nat.{ℕ, zero, suc, _-_}
 use native.Mathlib.Omega.{arith}
-use lib.ListN.{getD}
+use lib.ListN.{getD, List·getD-map}
 use borrow.Author.Tests.{ne-eqb}
 use Rattle.shape.specs.Walk.{byKind, byOperator, walkAt}
+
+-- what a row's word has is what the list of it has at that row
+pub part-at : (f : ℕ → ℕ) → f 0 ≡ 0 → (T : List ℕ) (row : ℕ) {w k : ℕ} → w ≡ getD T row 0 → k ≡ f w → k ≡ getD (map f T) row 0
+part-at f z T row e q = q ∙ ap f e ∙ sym (List·getD-map f T row 0) ∙ ap (getD (map f T) row) z
 
 module _ {A : Type 0} (k : ℕ) (x y z : A) where
   pub by-letter : k ≡ 0 → byKind k x y z ≡ x

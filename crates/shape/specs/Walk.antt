@@ -1,9 +1,20 @@
 -- A walk over the rows of a table that makes of each row what its kind and its operands make of it. Assumes nothing.
 use mathlib.Core.Bool.{cond}
-use mathlib.Core.List.{List}
+use mathlib.Core.List.{List, map}
 use Prim.Native.Nat.{ℕ, zero, suc}
 use lib.Dec.{eqb}
 use lib.ListN.{getD}
+use Rattle.words.specs.Words.{part0, part1, part2}
+
+-- The rows of a table, each of which is a word: their kinds; their left operands' rows, or for a letter its index; their right operands' rows.
+abbrev pub kinds : List ℕ → List ℕ
+kinds T = map part0 T
+
+abbrev pub lefts : List ℕ → List ℕ
+lefts T = map part1 T
+
+abbrev pub rights : List ℕ → List ℕ
+rights T = map part2 T
 
 -- by a row's kind: 0 a letter, 3 `*`, else an operator of two operands
 abbrev pub byKind : {A : Type 0} → ℕ → (letter star two : A) → A

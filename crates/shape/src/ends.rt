@@ -5,10 +5,13 @@ use super::sets::kept;
 use super::sets::lowest_in;
 use super::sets::one;
 use super::sets::stop_of;
-use super::table::kind_at;
-use super::table::operand_at;
+use super::table::word_at;
+use words::part0;
+use words::part1;
+use words::part2;
 ghost use mathlib.Core.Path.{_≡_};
 ghost use Prim.Native.Nat.{ℕ, _+_, _-_, _<_};
+ghost use Rattle.shape.specs.Walk.{kinds, lefts, rights};
 ghost use Rattle.shape.specs.Sets.{has, Passing};
 ghost use Rattle.shape.specs.Ends.{letterEnds, seqEnds, altEnds, starEnds, pipeEnds, joinedEnds, endsOf, endsAt, openAt};
 ghost use Rattle.shape.specs.Lowest.{lowest};
@@ -83,7 +86,7 @@ fn pipe_ends(e: EndSets, f: EndSets) -> EndSets
 }
 
 // An operator of two operands, by its kind.
-fn joined_ends(kind: u8, e: EndSets, f: EndSets) -> EndSets
+fn joined_ends(kind: usize, e: EndSets, f: EndSets) -> EndSets
     ensures { λ r. ⌜ ((x : ℕ) → endsOf x r ≡ joinedEnds kind (endsOf x e) (endsOf x f)) ⌝ }
 {
     if kind == 1 {
@@ -96,56 +99,43 @@ fn joined_ends(kind: u8, e: EndSets, f: EndSets) -> EndSets
 }
 
 // What a row has of the 64 letters from `first` on. `fuel` bounds how deep the walk goes.
-fn ends_at(
-    kind: &[u8],
-    left: &[u16],
-    right: &[u16],
-    first: usize,
-    fuel: usize,
-    row: usize,
-) -> EndSets
-    ensures { λ r. ⌜ ((x : ℕ) → x < 64 → endsOf x r ≡ endsAt (now (kind .entry)) (now (left .entry)) (now (right .entry)) (first + x) fuel row) ⌝ }
+fn ends_at(table: &[u64], first: usize, fuel: usize, row: usize) -> EndSets
+    ensures { λ r. ⌜ ((x : ℕ) → x < 64 → endsOf x r ≡ endsAt (kinds (now (table .entry))) (lefts (now (table .entry))) (rights (now (table .entry))) (first + x) fuel row) ⌝ }
 {
     if fuel == 0 {
         return letter_ends(0);
     }
-    let k = kind_at(kind, row);
-    let a = operand_at(left, row);
+    let head = word_at(table, row);
+    let k = part0(head);
+    let a = part1(head);
     if k == 0 {
         return letter_ends(one(a, first));
     }
-    let e = ends_at(kind, left, right, first, fuel - 1, a);
+    let e = ends_at(table, first, fuel - 1, a);
     if k == 3 {
         return star_ends(e);
     }
-    let b = operand_at(right, row);
-    let f = ends_at(kind, left, right, first, fuel - 1, b);
+    let b = part2(head);
+    let f = ends_at(table, first, fuel - 1, b);
     joined_ends(k, e, f)
 }
 
 // The letters of the 64 from `first` on that are an open end of a thread of the monitor at `row`.
-fn open_from(kind: &[u8], left: &[u16], right: &[u16], row: usize, first: usize) -> u64
-    ensures { λ r. ⌜ Passing (openAt (now (kind .entry)) (now (left .entry)) (now (right .entry)) row) first (first + 64) r ⌝ }
+fn open_from(table: &[u64], row: usize, first: usize) -> u64
+    ensures { λ r. ⌜ Passing (openAt (kinds (now (table .entry))) (lefts (now (table .entry))) (rights (now (table .entry))) row) first (first + 64) r ⌝ }
 {
-    let e = ends_at(kind, left, right, first, 1024, row);
+    let e = ends_at(table, first, 1024, row);
     e.fault
 }
 
 // The lowest letter from `first` on that is an open end, or the first that is not below `end`.
-pub(crate) fn lowest_open(
-    kind: &[u8],
-    left: &[u16],
-    right: &[u16],
-    row: usize,
-    first: usize,
-    end: usize,
-) -> usize
-    ensures { λ r. ⌜ r ≡ lowest (openAt (now (kind .entry)) (now (left .entry)) (now (right .entry)) row) first (end - first) ⌝ }
+pub(crate) fn lowest_open(table: &[u64], row: usize, first: usize, end: usize) -> usize
+    ensures { λ r. ⌜ r ≡ lowest (openAt (kinds (now (table .entry))) (lefts (now (table .entry))) (rights (now (table .entry))) row) first (end - first) ⌝ }
 {
     let mut i = first;
     while i < end {
         let stop = stop_of(i, end);
-        let found = lowest_in(open_from(kind, left, right, row, i), i, stop);
+        let found = lowest_in(open_from(table, row, i), i, stop);
         if found < stop {
             return found;
         }

@@ -1,6 +1,7 @@
-// Rules 11 ("open end") and 12 ("fork") for one monitor, on the rows of the table. Its letters are asked 64 at a time, and each time its rows are walked once.
+// Rules 11 ("open end") and 12 ("fork") for one monitor, on the rows of the table, each of which is a word. Its letters are asked 64 at a time, and each time its rows are walked once.
 
 ghost use mathlib.Core.Path.{_≡_};
+ghost use Rattle.shape.specs.Walk.{kinds, lefts, rights};
 ghost use Rattle.shape.specs.Judge.{judgeOf};
 
 mod ends;
@@ -17,22 +18,20 @@ pub enum Judged {
 
 // Judges the monitor whose own row is `row`. Its letters are those from `first` on and below `end`, of all that the table has.
 pub fn judge(
-    kind: &[u8; 1024],
-    left: &[u16; 1024],
-    right: &[u16; 1024],
+    table: &[u64; 1024],
     look: &[u64; 256],
     want: &[u64; 256],
     row: usize,
     first: usize,
     end: usize,
 ) -> Judged
-    ensures { λ r. ⌜ r ≡ judgeOf (now (kind .entry)) (now (left .entry)) (now (right .entry)) (now (look .entry)) (now (want .entry)) row first end ⌝ }
+    ensures { λ r. ⌜ r ≡ judgeOf (kinds (now (table .entry))) (lefts (now (table .entry))) (rights (now (table .entry))) (now (look .entry)) (now (want .entry)) row first end ⌝ }
 {
-    let open = ends::lowest_open(kind, left, right, row, first, end);
+    let open = ends::lowest_open(table, row, first, end);
     if open < end {
         return Judged::OpenEnd(open - first);
     }
-    let fork = sides::lowest_fork(kind, left, right, look, want, row, first, end);
+    let fork = sides::lowest_fork(table, look, want, row, first, end);
     if fork < end {
         return Judged::Fork(fork - first);
     }

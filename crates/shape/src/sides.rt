@@ -8,14 +8,16 @@ use super::sets::lowest_in;
 use super::sets::one;
 use super::sets::stop_of;
 use super::sets::without;
-use super::table::kind_at;
-use super::table::mask_at;
-use super::table::operand_at;
+use super::table::word_at;
+use words::part0;
+use words::part1;
+use words::part2;
 ghost use mathlib.Core.Bool.{not, _&&_};
 ghost use mathlib.Core.Path.{_≡_};
 ghost use Prim.Native.Nat.{ℕ, _+_, _-_, _≤_, _<_};
 ghost use lib.Dec.{eqb};
 ghost use Rattle.meaning.specs.Masks.{compatible};
+ghost use Rattle.shape.specs.Walk.{kinds, lefts, rights};
 ghost use Rattle.shape.specs.Sets.{has, Passing};
 ghost use Rattle.shape.specs.Sides.{letterSides, linked, seqSides, altSides, starSides, pipeSides, joinedSides, rivals, sidesOf, sidesAt, forkAt};
 ghost use Rattle.shape.specs.Lowest.{lowest};
@@ -110,7 +112,7 @@ fn pipe_sides(e: SideSets, f: SideSets) -> SideSets
 }
 
 // An operator of two operands, by its kind.
-fn joined_sides(kind: u8, e: SideSets, f: SideSets) -> SideSets
+fn joined_sides(kind: usize, e: SideSets, f: SideSets) -> SideSets
     ensures { λ r. ⌜ ((x : ℕ) → sidesOf x r ≡ joinedSides kind (sidesOf x e) (sidesOf x f)) ⌝ }
 {
     if kind == 1 {
@@ -146,8 +148,8 @@ fn masks_end(first: usize, stop: usize) -> usize
 fn met_with(look: &[u64; 256], want: &[u64; 256], letter: usize, first: usize, stop: usize) -> u64
     ensures { λ r. ⌜ Passing (λ i. rivals (now (look .entry)) (now (want .entry)) i letter) first stop r ⌝ }
 {
-    let own_look = mask_at(look, letter);
-    let own_want = mask_at(want, letter);
+    let own_look = word_at(look, letter);
+    let own_want = word_at(want, letter);
     let mut set = 0xffff_ffff_ffff_ffff;
     let mut i = masks_end(first, stop);
     while first < i {
@@ -174,9 +176,7 @@ fn letter_at(
 
 // What a row has of the letters from `first` on and below `stop`, 64 at most, and their rivals. `fuel` bounds how deep the walk goes.
 fn sides_at(
-    kind: &[u8],
-    left: &[u16],
-    right: &[u16],
+    table: &[u64],
     look: &[u64; 256],
     want: &[u64; 256],
     first: usize,
@@ -184,65 +184,58 @@ fn sides_at(
     fuel: usize,
     row: usize,
 ) -> SideSets
-    ensures { λ r. ⌜ ((x : ℕ) → x < 64 → first + x < stop → sidesOf x r ≡ sidesAt (now (kind .entry)) (now (left .entry)) (now (right .entry)) (now (look .entry)) (now (want .entry)) (first + x) fuel row) ⌝ }
+    ensures { λ r. ⌜ ((x : ℕ) → x < 64 → first + x < stop → sidesOf x r ≡ sidesAt (kinds (now (table .entry))) (lefts (now (table .entry))) (rights (now (table .entry))) (now (look .entry)) (now (want .entry)) (first + x) fuel row) ⌝ }
 {
     if fuel == 0 {
         return letter_sides(0, 0);
     }
-    let k = kind_at(kind, row);
-    let a = operand_at(left, row);
+    let head = word_at(table, row);
+    let k = part0(head);
+    let a = part1(head);
     if k == 0 {
         return letter_at(look, want, a, first, stop);
     }
-    let e = sides_at(kind, left, right, look, want, first, stop, fuel - 1, a);
+    let e = sides_at(table, look, want, first, stop, fuel - 1, a);
     if k == 3 {
         return star_sides(e);
     }
-    let b = operand_at(right, row);
-    let f = sides_at(kind, left, right, look, want, first, stop, fuel - 1, b);
+    let b = part2(head);
+    let f = sides_at(table, look, want, first, stop, fuel - 1, b);
     joined_sides(k, e, f)
 }
 
 // The letters from `first` on and below `stop`, 64 at most, that are side by side with a rival in the monitor at `row`, whose last letters are followed by its first ones, as in a
 // star.
 fn forks_from(
-    kind: &[u8],
-    left: &[u16],
-    right: &[u16],
+    table: &[u64],
     look: &[u64; 256],
     want: &[u64; 256],
     row: usize,
     first: usize,
     stop: usize,
 ) -> u64
-    ensures { λ r. ⌜ Passing (forkAt (now (kind .entry)) (now (left .entry)) (now (right .entry)) (now (look .entry)) (now (want .entry)) row) first stop r ⌝ }
+    ensures { λ r. ⌜ Passing (forkAt (kinds (now (table .entry))) (lefts (now (table .entry))) (rights (now (table .entry))) (now (look .entry)) (now (want .entry)) row) first stop r ⌝ }
 {
-    let e = sides_at(kind, left, right, look, want, first, stop, 1024, row);
+    let e = sides_at(table, look, want, first, stop, 1024, row);
     let again = star_sides(e);
     again.fork
 }
 
 // The lowest letter from `first` on that is side by side with a rival, or the first that is not below `end`.
 pub(crate) fn lowest_fork(
-    kind: &[u8],
-    left: &[u16],
-    right: &[u16],
+    table: &[u64],
     look: &[u64; 256],
     want: &[u64; 256],
     row: usize,
     first: usize,
     end: usize,
 ) -> usize
-    ensures { λ r. ⌜ r ≡ lowest (forkAt (now (kind .entry)) (now (left .entry)) (now (right .entry)) (now (look .entry)) (now (want .entry)) row) first (end - first) ⌝ }
+    ensures { λ r. ⌜ r ≡ lowest (forkAt (kinds (now (table .entry))) (lefts (now (table .entry))) (rights (now (table .entry))) (now (look .entry)) (now (want .entry)) row) first (end - first) ⌝ }
 {
     let mut i = first;
     while i < end {
         let stop = stop_of(i, end);
-        let found = lowest_in(
-            forks_from(kind, left, right, look, want, row, i, stop),
-            i,
-            stop,
-        );
+        let found = lowest_in(forks_from(table, look, want, row, i, stop), i, stop);
         if found < stop {
             return found;
         }

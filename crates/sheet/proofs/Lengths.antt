@@ -1,9 +1,8 @@
 -- How many bytes a sheet and its lines can have. Assumes nothing.
-use mathlib.Core.Path.{_≡_, refl, ap, subst}
+use mathlib.Core.Path.{_≡_, refl}
 use mathlib.Core.Bool.{Bool, true, false, cond}
 use mathlib.Core.List.{List, [], _∷_}
-use Prim.Native.Nat.{ℕ, zero, suc, _+_, _-_, _*_, _/_, _^_, _≤_, _<_, min}
-use native.Mathlib.Nat.{div-lt-iff-lt-mul, pow-suc, le-trans}
+use Prim.Native.Nat.{ℕ, zero, suc, _+_, _-_, _*_, _^_, _≤_, _<_, min}
 use native.Mathlib.Omega.{arith}
 use lib.Dec.{ltb}
 use lib.ListN.{length, drop, length-append, length-drop}
@@ -21,31 +20,12 @@ use Rattle.meaning.specs.Fit.{Verdict, Tick, History, start, verdict, judged, o
 use Rattle.meaning.specs.Fit as fit
 use Rattle.meaning.specs.Calls as calls
 use Rattle.meaning.specs.Calls.{Reply, ok, bad, State, opening, reply, after, isFull, isStray, mostTicks}
-use Rattle.meaning.specs.Sheet.{digitsIn, decimal, hexadecimal, line, refusalLine, countsLine, cleanLine, tickLines, sheet}
+use Rattle.meaning.specs.Sheet.{decimal, hexadecimal, line, refusalLine, countsLine, cleanLine, tickLines, sheet}
 use Rattle.meaning.proofs.Openings.{rows-right, rows-fit}
 use Rattle.meaning.proofs.Rows.{rows-no-more}
 use Rattle.meaning.proofs.Walk.{a-row}
 use Rattle.sheet.specs.Lines.{okLine, badLine, firstLine}
-use Rattle.sheet.proofs.PageSteps.{hexadecimal-long}
-
--- ---- numbers
-
-digits-short : (k d n : ℕ) (ds : List ℕ) → n < 10 ^ suc d → length (digitsIn 10 k n ds) ≤ suc d + length ds
-unfolding digitsIn
-digits-short zero d n ds h = omega arith
-digits-short (suc k) d n ds h = by d h (n / 10) refl (digits-short k)
-  where
-    by : (d : ℕ) → n < 10 ^ suc d → (q : ℕ) → n / 10 ≡ q
-        → ((e m : ℕ) (xs : List ℕ) → m < 10 ^ suc e → length (digitsIn 10 k m xs) ≤ suc e + length xs) → length (digitsIn 10 (suc k) n ds) ≤ suc d + length ds
-    by d h zero e more = rw (e, digitsIn) (omega arith)
-    by zero h (suc m) e more = absurd (omega (arith, h, e))
-    by (suc d) h (suc m) e more =
-        let l : n / 10 < 10 ^ suc d = div-lt-iff-lt-mul {k = 10} {x = n} {y = 10 ^ suc d} (omega arith) .1 (subst (λ (x : ℕ). n < x) (pow-suc 10 (suc d)) h) in
-        rw (e, digitsIn) (le-trans (more d (n / 10) (_ ∷ ds) l) (omega arith))
-
-pub decimal-short : (n : ℕ) → n < 10 ^ 20 → length (decimal n) ≤ 20
-unfolding decimal
-decimal-short n h = omega (arith, digits-short n 19 n [] h)
+use Rattle.sheet.proofs.PageSteps.{decimal-short, hexadecimal-long}
 
 -- ---- lines
 

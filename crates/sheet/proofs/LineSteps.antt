@@ -2,6 +2,7 @@
 use mathlib.Core.Path.{_≡_, refl, ap, _∙_}
 use mathlib.Core.List.{List, [], _∷_, _++_, append-assoc}
 use Prim.Native.Nat.{ℕ, _+_, _≤_}
+use native.Mathlib.Nat.{le-refl}
 use native.Mathlib.Omega.{arith}
 use lib.ListN.{length, length-append}
 use lib.Seq.{sets}
@@ -15,8 +16,23 @@ use Rattle.sheet.proofs.PageSteps.{Put, put-two, hexadecimal-long}
 abbrev Line : (o : List ℕ) (a : ℕ) (xs o′ : List ℕ) (a′ m : ℕ) → Type 0
 Line o a xs o′ a′ m = (o′ ≡ sets o a xs) × (a′ ≡ a + length xs) × (length xs ≤ m)
 
-as-line : (o : List ℕ) (a : ℕ) (xs ys o′ : List ℕ) (a′ m : ℕ) → xs ≡ ys → Put o a xs o′ a′ → length xs ≤ m → Line o a ys o′ a′ m
-as-line o a xs ys o′ a′ m e p l = (p .wrote ∙ ap (sets o a) e, p .behind ∙ ap (λ (zs : List ℕ). a + length zs) e, omega (arith, ap length e))
+-- such a put, and puts behind one another
+record Short (o : List ℕ) (a : ℕ) (xs o′ : List ℕ) (a′ m : ℕ) : Type 0 where
+  puts : Put o a xs o′ a′
+  short : length xs ≤ m
+
+module _ {o o₁ xs : List ℕ} {a a₁ : ℕ} where
+  all : Put o a xs o₁ a₁ → Short o a xs o₁ a₁ (length xs)
+  all p = record { puts = p; short = le-refl (length xs) }
+
+  up-to : {m : ℕ} → Put o a xs o₁ a₁ → length xs ≤ m → Short o a xs o₁ a₁ m
+  up-to p l = record { puts = p; short = l }
+
+  then : {o₂ ys : List ℕ} {a₂ m n : ℕ} → Short o a xs o₁ a₁ m → Short o₁ a₁ ys o₂ a₂ n → Short o a (xs ++ ys) o₂ a₂ (m + n)
+  then {ys} p q = record { puts = put-two (p .puts) (q .puts); short = omega (arith, length-append xs ys) }
+
+  as-line : {ys : List ℕ} {k m : ℕ} → xs ≡ ys → Short o a xs o₁ a₁ k → k ≤ m → Line o a ys o₁ a₁ m
+  as-line e p l = (p .puts .wrote ∙ ap (sets o a) e, p .puts .behind ∙ ap (λ (zs : List ℕ). a + length zs) e, omega (arith, ap length e))
 
 -- ---- what the lines are
 
@@ -57,41 +73,34 @@ bad-line t w m = behind-front t w (bytes "bad " ++ (decimal m ++ (10 ∷ [])))
 pub refusal-put : (n p : ℕ) {o o₁ o₂ o₃ o₄ o₅ : List ℕ} {a a₁ a₂ a₃ a₄ a₅ : ℕ}
     → Put o a (bytes "refused ") o₁ a₁ → Put o₁ a₁ (decimal n) o₂ a₂ → Put o₂ a₂ (32 ∷ []) o₃ a₃ → Put o₃ a₃ (decimal p) o₄ a₄ → Put o₄ a₄ (10 ∷ []) o₅ a₅ → length (decimal n) ≤ 20 → length (decimal p) ≤ 20
     → Line o a (refusalLine n (byte p)) o₅ a₅ 64
-refusal-put n p {o} {o₁} {o₂} {o₃} {o₄} {o₅} {a} {a₁} {a₂} {a₃} {a₄} {a₅} p₁ p₂ p₃ p₄ p₅ l₁ l₂ =
-    as-line o a _ _ o₅ a₅ 64 (refusal-line n p) (put-two p₁ (put-two p₂ (put-two p₃ (put-two p₄ p₅)))) (omega (arith, length-append (bytes "refused ") ((decimal n) ++ ((32 ∷ []) ++ ((decimal p) ++ (10 ∷ [])))), length-append (decimal n) ((32 ∷ []) ++ ((decimal p) ++ (10 ∷ []))), length-append (32 ∷ []) ((decimal p) ++ (10 ∷ [])), length-append (decimal p) (10 ∷ [])))
+refusal-put n p p₁ p₂ p₃ p₄ p₅ l₁ l₂ = as-line (refusal-line n p) (then (all p₁) (then (up-to p₂ l₁) (then (all p₃) (then (up-to p₄ l₂) (all p₅))))) (omega arith)
 
 pub refusal-at-put : (n m l : ℕ) {o o₁ o₂ o₃ o₄ o₅ o₆ o₇ : List ℕ} {a a₁ a₂ a₃ a₄ a₅ a₆ a₇ : ℕ}
     → Put o a (bytes "refused ") o₁ a₁ → Put o₁ a₁ (decimal n) o₂ a₂ → Put o₂ a₂ (32 ∷ []) o₃ a₃ → Put o₃ a₃ (decimal m) o₄ a₄ → Put o₄ a₄ (32 ∷ []) o₅ a₅ → Put o₅ a₅ (decimal l) o₆ a₆ → Put o₆ a₆ (10 ∷ []) o₇ a₇ → length (decimal n) ≤ 20 → length (decimal m) ≤ 20 → length (decimal l) ≤ 20
     → Line o a (refusalLine n (letterOf m l)) o₇ a₇ 128
-refusal-at-put n m l {o} {o₁} {o₂} {o₃} {o₄} {o₅} {o₆} {o₇} {a} {a₁} {a₂} {a₃} {a₄} {a₅} {a₆} {a₇} p₁ p₂ p₃ p₄ p₅ p₆ p₇ l₁ l₂ l₃ =
-    as-line o a _ _ o₇ a₇ 128 (refusal-at-line n m l) (put-two p₁ (put-two p₂ (put-two p₃ (put-two p₄ (put-two p₅ (put-two p₆ p₇)))))) (omega (arith, length-append (bytes "refused ") ((decimal n) ++ ((32 ∷ []) ++ ((decimal m) ++ ((32 ∷ []) ++ ((decimal l) ++ (10 ∷ [])))))), length-append (decimal n) ((32 ∷ []) ++ ((decimal m) ++ ((32 ∷ []) ++ ((decimal l) ++ (10 ∷ []))))), length-append (32 ∷ []) ((decimal m) ++ ((32 ∷ []) ++ ((decimal l) ++ (10 ∷ [])))), length-append (decimal m) ((32 ∷ []) ++ ((decimal l) ++ (10 ∷ []))), length-append (32 ∷ []) ((decimal l) ++ (10 ∷ [])), length-append (decimal l) (10 ∷ [])))
+refusal-at-put n m l p₁ p₂ p₃ p₄ p₅ p₆ p₇ l₁ l₂ l₃ = as-line (refusal-at-line n m l) (then (all p₁) (then (up-to p₂ l₁) (then (all p₃) (then (up-to p₄ l₂) (then (all p₅) (then (up-to p₆ l₃) (all p₇))))))) (omega arith)
 
 pub counts-put : (r l : ℕ) {o o₁ o₂ o₃ o₄ o₅ : List ℕ} {a a₁ a₂ a₃ a₄ a₅ : ℕ}
     → Put o a (bytes "rows ") o₁ a₁ → Put o₁ a₁ (decimal r) o₂ a₂ → Put o₂ a₂ (bytes " letters ") o₃ a₃ → Put o₃ a₃ (decimal l) o₄ a₄ → Put o₄ a₄ (10 ∷ []) o₅ a₅ → length (decimal r) ≤ 20 → length (decimal l) ≤ 20
     → Line o a (line (bytes "rows" ∷ decimal r ∷ bytes "letters" ∷ decimal l ∷ [])) o₅ a₅ 64
-counts-put r l {o} {o₁} {o₂} {o₃} {o₄} {o₅} {a} {a₁} {a₂} {a₃} {a₄} {a₅} p₁ p₂ p₃ p₄ p₅ l₁ l₂ =
-    as-line o a _ _ o₅ a₅ 64 (counts-line r l) (put-two p₁ (put-two p₂ (put-two p₃ (put-two p₄ p₅)))) (omega (arith, length-append (bytes "rows ") ((decimal r) ++ ((bytes " letters ") ++ ((decimal l) ++ (10 ∷ [])))), length-append (decimal r) ((bytes " letters ") ++ ((decimal l) ++ (10 ∷ []))), length-append (bytes " letters ") ((decimal l) ++ (10 ∷ [])), length-append (decimal l) (10 ∷ [])))
+counts-put r l p₁ p₂ p₃ p₄ p₅ l₁ l₂ = as-line (counts-line r l) (then (all p₁) (then (up-to p₂ l₁) (then (all p₃) (then (up-to p₄ l₂) (all p₅))))) (omega arith)
 
 pub tick-put : (t w : ℕ) {o o₁ o₂ o₃ o₄ : List ℕ} {a a₁ a₂ a₃ a₄ : ℕ}
     → Put o a (decimal t) o₁ a₁ → Put o₁ a₁ (32 ∷ []) o₂ a₂ → Put o₂ a₂ (hexadecimal 16 w) o₃ a₃ → Put o₃ a₃ (32 ∷ []) o₄ a₄ → length (decimal t) ≤ 20
     → Line o a (tickFront t w) o₄ a₄ 38
-tick-put t w {o} {o₁} {o₂} {o₃} {o₄} {a} {a₁} {a₂} {a₃} {a₄} p₁ p₂ p₃ p₄ l₁ =
-    as-line o a _ _ o₄ a₄ 38 (refl) (put-two p₁ (put-two p₂ (put-two p₃ p₄))) (omega (arith, hexadecimal-long 16 w, length-append (decimal t) ((32 ∷ []) ++ ((hexadecimal 16 w) ++ (32 ∷ []))), length-append (32 ∷ []) ((hexadecimal 16 w) ++ (32 ∷ [])), length-append (hexadecimal 16 w) (32 ∷ [])))
+tick-put t w p₁ p₂ p₃ p₄ l₁ = as-line (refl) (then (up-to p₁ l₁) (then (all p₂) (then (up-to {m = 16} p₃ (omega (arith, hexadecimal-long 16 w))) (all p₄)))) (omega arith)
 
 pub ok-put : (t w : ℕ) {o o₁ o₂ : List ℕ} {a a₁ a₂ : ℕ}
     → Put o a (tickFront t w) o₁ a₁ → Put o₁ a₁ (bytes "ok\n") o₂ a₂ → length (tickFront t w) ≤ 38
     → Line o a (okLine t w) o₂ a₂ 64
-ok-put t w {o} {o₁} {o₂} {a} {a₁} {a₂} p₁ p₂ l₁ =
-    as-line o a _ _ o₂ a₂ 64 (ok-line t w) (put-two p₁ p₂) (omega (arith, length-append (tickFront t w) (bytes "ok\n")))
+ok-put t w p₁ p₂ l₁ = as-line (ok-line t w) (then (up-to p₁ l₁) (all p₂)) (omega arith)
 
 pub bad-put : (t w m : ℕ) {o o₁ o₂ o₃ o₄ : List ℕ} {a a₁ a₂ a₃ a₄ : ℕ}
     → Put o a (tickFront t w) o₁ a₁ → Put o₁ a₁ (bytes "bad ") o₂ a₂ → Put o₂ a₂ (decimal m) o₃ a₃ → Put o₃ a₃ (10 ∷ []) o₄ a₄ → length (tickFront t w) ≤ 38 → length (decimal m) ≤ 20
     → Line o a (badLine t w m) o₄ a₄ 64
-bad-put t w m {o} {o₁} {o₂} {o₃} {o₄} {a} {a₁} {a₂} {a₃} {a₄} p₁ p₂ p₃ p₄ l₁ l₂ =
-    as-line o a _ _ o₄ a₄ 64 (bad-line t w m) (put-two p₁ (put-two p₂ (put-two p₃ p₄))) (omega (arith, length-append (tickFront t w) ((bytes "bad ") ++ ((decimal m) ++ (10 ∷ []))), length-append (bytes "bad ") ((decimal m) ++ (10 ∷ [])), length-append (decimal m) (10 ∷ [])))
+bad-put t w m p₁ p₂ p₃ p₄ l₁ l₂ = as-line (bad-line t w m) (then (up-to p₁ l₁) (then (all p₂) (then (up-to p₃ l₂) (all p₄)))) (omega arith)
 
 pub clean-put : (n : ℕ) {o o₁ o₂ o₃ : List ℕ} {a a₁ a₂ a₃ : ℕ}
     → Put o a (bytes "clean ") o₁ a₁ → Put o₁ a₁ (decimal n) o₂ a₂ → Put o₂ a₂ (10 ∷ []) o₃ a₃ → length (decimal n) ≤ 20
     → Line o a (cleanLine n) o₃ a₃ 64
-clean-put n {o} {o₁} {o₂} {o₃} {a} {a₁} {a₂} {a₃} p₁ p₂ p₃ l₁ =
-    as-line o a _ _ o₃ a₃ 64 (clean-line n) (put-two p₁ (put-two p₂ p₃)) (omega (arith, length-append (bytes "clean ") ((decimal n) ++ (10 ∷ [])), length-append (decimal n) (10 ∷ [])))
+clean-put n p₁ p₂ p₃ l₁ = as-line (clean-line n) (then (all p₁) (then (up-to p₂ l₁) (all p₃))) (omega arith)

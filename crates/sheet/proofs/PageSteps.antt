@@ -1,10 +1,10 @@
 -- The steps of page.rt: digits and bytes stored behind one another. Assumes nothing.
 use mathlib.Core.Path.{_≡_, refl, sym, ap, ap₂, _∙_, subst}
 use mathlib.Core.Bool.{Bool, cond}
-use mathlib.Core.List.{List, _∷_, _++_}
+use mathlib.Core.List.{List, [], _∷_, _++_}
 use Prim.Native.Nat.{ℕ, zero, suc, _+_, _-_, _*_, _/_, _%_, _^_, _≤_, _<_}
 use native.Mathlib.Omega.{arith}
-use native.Mathlib.Nat.{div-eq-of-lt, div-lt-iff-lt-mul, mod-eq-of-lt, pow-suc}
+use native.Mathlib.Nat.{div-eq-of-lt, div-lt-iff-lt-mul, mod-eq-of-lt, pow-suc, le-trans}
 use lib.ListN.{length, getD, set, take, drop, length-append, length-set, length-drop, drop-of-length-le}
 use lib.Seq.{sets, drop-cons, drop-set-lt, getD-set-same, lt-length-set, take-all}
 use borrow.Author.Tests.{lt-ltb, le-ltb}
@@ -65,6 +65,23 @@ digits-more k n m ds e =
 digits-none : (n : ℕ) (ds : List ℕ) → digitsIn 10 zero n ds ≡ hexDigit (n % 10) ∷ ds
 unfolding digitsIn
 digits-none n ds = refl
+
+digits-short : (k d n : ℕ) (ds : List ℕ) → n < 10 ^ suc d → length (digitsIn 10 k n ds) ≤ suc d + length ds
+unfolding digitsIn
+digits-short zero d n ds h = omega arith
+digits-short (suc k) d n ds h = by d h (n / 10) refl (digits-short k)
+  where
+    by : (d : ℕ) → n < 10 ^ suc d → (q : ℕ) → n / 10 ≡ q
+        → ((e m : ℕ) (xs : List ℕ) → m < 10 ^ suc e → length (digitsIn 10 k m xs) ≤ suc e + length xs) → length (digitsIn 10 (suc k) n ds) ≤ suc d + length ds
+    by d h zero e more = rw (e, digitsIn) (omega arith)
+    by zero h (suc m) e more = absurd (omega (arith, h, e))
+    by (suc d) h (suc m) e more =
+        let l : n / 10 < 10 ^ suc d = div-lt-iff-lt-mul {k = 10} {x = n} {y = 10 ^ suc d} (omega arith) .1 (subst (λ (x : ℕ). n < x) (pow-suc 10 (suc d)) h) in
+        rw (e, digitsIn) (le-trans (more d (n / 10) (_ ∷ ds) l) (omega arith))
+
+pub decimal-short : (n : ℕ) → n < 10 ^ 20 → length (decimal n) ≤ 20
+unfolding decimal
+decimal-short n h = omega (arith, digits-short n 19 n [] h)
 
 -- a count of at least the number does not run out
 enough : (j k n : ℕ) (ds : List ℕ) → n ≤ j → n ≤ k → digitsIn 10 j n ds ≡ digitsIn 10 k n ds
@@ -135,12 +152,12 @@ fill-end n digits i rest (a, b, h, e) g =
     (drop-here digits i (48 + rest) (omega (arith, a, b)) ∙ sym (e ∙ digits-last rest (drop (i + 1) digits) g), a, length-set digits i (48 + rest) ∙ b)
 
 -- the digits put are those of the buffer from r on
-pub decimal-put : (n at place r : ℕ) (digits o o′ : List ℕ) → drop r digits ≡ decimal n → length digits ≡ 20
+pub decimal-put : (n at place r : ℕ) (digits o o′ : List ℕ) → n < 2 ^ 64 → drop r digits ≡ decimal n → length digits ≡ 20
     → o′ ≡ sets o at (take (20 - r) (drop r digits)) → place ≡ at + length (take (20 - r) (drop r digits))
     → (o′ ≡ sets o at (decimal n)) × (place ≡ at + length (decimal n)) × (length (decimal n) ≤ 20)
-decimal-put n at place r digits o o′ e l p q =
+decimal-put n at place r digits o o′ h e l p q =
     let s : take (20 - r) (drop r digits) ≡ decimal n = take-all (20 - r) (drop r digits) (omega (arith, l, length-drop r digits)) ∙ e in
-    (p ∙ ap (sets o at) s, q ∙ ap (λ (zs : List ℕ). at + length zs) s, omega (arith, l, ap length e, length-drop r digits))
+    (p ∙ ap (sets o at) s, q ∙ ap (λ (zs : List ℕ). at + length zs) s, decimal-short n (omega arith))
 
 -- ---- words
 

@@ -1,11 +1,11 @@
 -- A run over records, by the code's loop and branches. Assumes nothing.
 use mathlib.Core.Path.{_≡_, refl, sym, _∙_, ap, ap₂}
-use mathlib.Core.Bool.{Bool, true, false, cond}
+use mathlib.Core.Bool.{Bool, true, false}
 use mathlib.Core.List.{List, [], _∷_, _++_, append-assoc}
 use Prim.Native.Nat.{ℕ, zero, suc, _+_, _-_, _*_, _<_, _≤_, min}
 use native.Mathlib.Omega.{arith}
 use borrow.Author.Tests.{eq-eqb, ne-eqb, lt-ltb, le-ltb, ltb-true, ltb-false}
-use lib.Dec.{eqb, ltb}
+use lib.Dec.{ltb}
 use lib.ListN.{length, take, drop, length-drop, length-append}
 use lib.Seq.{sets, drop-drop, length-sets}
 use Rattle.trace.specs.Answer.{Answer, value, refused}
@@ -28,12 +28,6 @@ use Rattle.monitor.proofs.TickSteps.{call-refused, call-bad, call-ok, few-ticks
 use Rattle.sheet.specs.Lines.{Run, run, Ran, ran, printing, onReply, onRead, okLine, badLine, runOn, runOver}
 use Rattle.sheet.specs.Items.{itemOf}
 use Rattle.sheet.specs.declared.ticking.Item.{Item as CodeItem}
-
-taken : {A : Type 0} (b : Bool) (x y : A) → b ≡ true → cond b x y ≡ x
-taken b x y e = rw e
-
-left : {A : Type 0} (b : Bool) (x y : A) → b ≡ false → cond b x y ≡ y
-left b x y e = rw e
 
 -- ---- the code's helpers
 
@@ -103,13 +97,13 @@ read-word (map ∷ given) before e = by (ltb (length given) (count 8 map)) (idle
 read-end : (r : Answer Item) (s : Run) (rest : List ℕ) (f : Run → List ℕ → Ran) → itemOf r .number ≡ 13 → onRead r s rest f ≡ ran [] s rest false
 read-end (value (word w n)) s rest f e = absurd (omega (arith, e))
 read-end (value end) s rest f e = refl
-read-end (refused k p) s rest f e = taken (eqb k 13) _ _ (eq-eqb k 13 e)
+read-end (refused k p) s rest f e = rw (eq-eqb k 13 e)
 
 read-refused : (r : Answer Item) (s : Run) (rest : List ℕ) (f : Run → List ℕ → Ran) → (itemOf r .number ≡ 13 → ⊥) → (itemOf r .number ≡ 0 → ⊥)
     → onRead r s rest f ≡ ran (refusalLine (itemOf r .number) (meaning.tick (s .watch .ticks))) s rest true
 read-refused (value (word w n)) s rest f e z = absurd (z refl)
 read-refused (value end) s rest f e z = absurd (e refl)
-read-refused (refused k p) s rest f e z = left (eqb k 13) _ _ (ne-eqb k 13 e)
+read-refused (refused k p) s rest f e z = rw (ne-eqb k 13 e)
 
 -- a tick's place is printed as a byte's
 pub same-place : (k t : ℕ) → refusalLine k (meaning.byte t) ≡ refusalLine k (meaning.tick t)

@@ -12,7 +12,7 @@ use lib.ListN.{length, getD, take, drop, replicate, length-append, take-append-d
 use lib.Seq.{getD-at, take-suc, length-take-le}
 use borrow.Author.Tests.{eqb-true, eqb-false, ne-eqb, le-ltb, ltb-false}
 use Rattle.trace.specs.Answer.{value}
-use Rattle.trace.specs.Record.{word, end, bit, byte, count, picked, recordOf, differs, changes, written, givenFor, newByte, merged, idleAt, idle, judged, readRecord}
+use Rattle.trace.specs.Record.{word, bit, byte, count, picked, recordOf, differs, changes, written, givenFor, newByte, merged, idleAt, idle, judged, readRecord}
 use Rattle.trace.proofs.Bits.{bit-cases, count-mono}
 use Rattle.trace.proofs.Clash.{clash}
 use Rattle.trace.proofs.Digits.{digit-number, number-digits, number-ext}

@@ -10,19 +10,25 @@ use Rattle.rules.proofs.letter_rows.Statement.{statement}
 use Rattle.rules.proofs.letter_rows.Tie as tie
 
 abbrev Inv-loop : tie.InvT-loop
-Inv-loop kind rows places₀ count₀ row₀ places count row = (row ≤ rows) × (count ≤ row) × (length places ≡ 256) × Placed kind places row count
+Inv-loop table rows places₀ count₀ row₀ places count row = (row ≤ rows) × (count ≤ row) × (length places ≡ 256) × Placed table places row count
 
 abbrev μ-loop : tie.MeasureT-loop
-μ-loop kind rows places₀ count₀ row₀ places count row = rows - row
+μ-loop table rows places₀ count₀ row₀ places count row = rows - row
 
 loop-holds : tie.Need-loop-holds Inv-loop μ-loop
 loop-holds c = (omega arith, omega arith, length-replicate {A = ℕ} 256 0, none-placed _)
 
-element-copy-out-place-letter : tie.Need-element-copy-out-place-letter Inv-loop μ-loop
-element-copy-out-place-letter c = search needs
+mul-part0 : tie.Need-mul-part0 Inv-loop μ-loop
+mul-part0 c = search needs
+
+element-copy-out-part0 : tie.Need-element-copy-out-part0 Inv-loop μ-loop
+element-copy-out-part0 c = search needs
+
+part0-requires : tie.Need-part0-requires Inv-loop μ-loop
+part0-requires c κs = search needs
 
 place-letter-requires : tie.Need-place-letter-requires Inv-loop μ-loop
-place-letter-requires c κs = let i = c .before .before .before .loop .inv in (omega arith, i .1, i .2)
+place-letter-requires c κs = let i = c .before .before .before .before .loop .inv in (omega arith, i .1, i .2)
 
 add-row : tie.Need-add-row Inv-loop μ-loop
 add-row c = search needs
@@ -32,9 +38,9 @@ loop-less c = omega arith
 
 loop-again : tie.Need-loop-again Inv-loop μ-loop
 loop-again c =
-    let i = c .before .before .before .before .loop .inv in
+    let i = c .before .before .before .before .before .loop .inv in
     let e = c .place-letter .ensures in
-    placed-next _ _ _ _ _ _ _ (omega arith) (i .1) (i .2) (i .3) (omega arith) (e .0) (e .1)
+    placed-next _ _ _ _ _ _ _ (omega arith) (c .before .before .part0 .ensures) (i .3) (e .0) (e .1) _ (omega arith) (i .1) (i .2)
 
 returns : tie.Need-returns Inv-loop μ-loop
 returns c =
@@ -48,7 +54,9 @@ letter-rows-spec =
     Inv-loop
     μ-loop
     loop-holds
-    element-copy-out-place-letter
+    mul-part0
+    element-copy-out-part0
+    part0-requires
     place-letter-requires
     add-row
     loop-less

@@ -1,12 +1,12 @@
 -- `rules::no_watch` meets its contract.
 -- Assumes nothing.
 use mathlib.Core.Path.{refl}
-use Rattle.rules.specs.Watches.{rowWords, lettersFrom}
+use Rattle.rules.specs.Watches.{lettersFrom}
 use Rattle.rules.proofs.no_watch.Statement.{statement}
 use Rattle.rules.proofs.no_watch.Tie as tie
 
 returns : tie.Need-returns
-unfolding rowWords lettersFrom
+unfolding lettersFrom
 returns c = refl
 
 pub no-watch-spec : {M : Type 1} → statement M

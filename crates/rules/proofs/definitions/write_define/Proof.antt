@@ -3,7 +3,7 @@
 use native.Mathlib.Omega.{arith}
 use borrow.Author.Needs.{needs}
 use lib.ListN.{length-set}
-use Rattle.rules.proofs.Bodies.{define-small, define-put}
+use Rattle.rules.proofs.Bodies.{define-put}
 use Rattle.rules.proofs.definitions.write_define.Statement.{statement}
 use Rattle.rules.proofs.definitions.write_define.Tie as tie
 
@@ -20,7 +20,7 @@ flagged-requires : tie.Need-flagged-requires
 flagged-requires c κs = search needs
 
 quad-requires-2 : tie.Need-quad-requires-2
-quad-requires-2 c κs = let (a, b, d) = define-small _ _ _ _ _ (c .before .before .before .pre .1) (c .before .before .before .pre .2) (c .before .before .before .pre .3) (c .before .before .before .pre .4) _ (c .before .before .before .pre .0) (c .before .before .before .pre .5) _ (c .flagged .ensures) in (a, b, d, omega arith)
+quad-requires-2 c κs = search needs
 
 add-words : tie.Need-add-words
 add-words c = search needs

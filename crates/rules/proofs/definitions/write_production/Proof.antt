@@ -3,7 +3,7 @@
 use native.Mathlib.Omega.{arith}
 use borrow.Author.Needs.{needs}
 use lib.ListN.{length-set}
-use Rattle.rules.proofs.Bodies.{production-small, production-put}
+use Rattle.rules.proofs.Bodies.{production-put}
 use Rattle.rules.proofs.definitions.write_production.Statement.{statement}
 use Rattle.rules.proofs.definitions.write_production.Tie as tie
 
@@ -32,7 +32,7 @@ flagged-requires : tie.Need-flagged-requires
 flagged-requires c κs = search needs
 
 quad-requires-3 : tie.Need-quad-requires-3
-quad-requires-3 c κs = let (a, b, d, e, f) = production-small _ _ _ _ _ (c .before .before .before .before .pre .1) (c .before .before .before .before .pre .2) (c .before .before .before .before .pre .3) (c .before .before .before .before .pre .4) _ (c .before .before .before .before .pre .0) (c .before .before .before .before .pre .5) _ (c .flagged .ensures) in (b, d, e, f)
+quad-requires-3 c κs = search needs
 
 add-words-2 : tie.Need-add-words-2
 add-words-2 c = search needs

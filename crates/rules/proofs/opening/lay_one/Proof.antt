@@ -2,12 +2,11 @@
 -- Assumes nothing.
 use borrow.Author.Needs.{needs}
 use Rattle.rules.proofs.OneMonitor.{ruled-fine, ruled-open, ruled-fork}
-use Rattle.rules.proofs.Placing.{first-room}
 use Rattle.rules.proofs.opening.lay_one.Statement.{statement}
 use Rattle.rules.proofs.opening.lay_one.Tie as tie
 
 lay-requires : tie.Need-lay-requires
-lay-requires c κs = (first-room _ _ _ _ (c .before .before .before .before .before .before .before .before .before .pre) .0, c .before .before .before .before .before .before .before .before .before .pre)
+lay-requires c κs = c .before .before .before .before .before .before .pre
 
 judge-requires : tie.Need-judge-requires
 judge-requires c κs = search needs
@@ -22,13 +21,13 @@ enum-known-judged-2 : tie.Need-enum-known-judged-2
 enum-known-judged-2 c = search needs
 
 returns : tie.Need-returns
-returns c = ruled-fine _ _ _ _ _ _ _ _ _ _ (c .before .before .before .before .before .before .before .before .lay .ensures) _ (c .before .before .judge .ensures) (c .enum-told .given .1)
+returns c = ruled-fine _ _ _ _ _ _ _ _ _ _ (c .before .before .before .before .before .before .lay .ensures) _ (c .before .before .judge .ensures) (c .enum-told .given .1)
 
 returns-2 : tie.Need-returns-2
-returns-2 c = ruled-open _ _ _ _ _ _ _ _ _ _ (c .before .before .before .before .before .before .before .before .before .lay .ensures) _ (c .before .before .before .judge .ensures) _ (c .before .judged .given .1)
+returns-2 c = ruled-open _ _ _ _ _ _ _ _ _ _ (c .before .before .before .before .before .before .before .lay .ensures) _ (c .before .before .before .judge .ensures) _ (c .before .judged .given .1)
 
 returns-3 : tie.Need-returns-3
-returns-3 c = ruled-fork _ _ _ _ _ _ _ _ _ _ (c .before .before .before .before .before .before .before .before .before .lay .ensures) _ (c .before .before .before .judge .ensures) _ (c .before .judged2 .given .1)
+returns-3 c = ruled-fork _ _ _ _ _ _ _ _ _ _ (c .before .before .before .before .before .before .before .lay .ensures) _ (c .before .before .before .judge .ensures) _ (c .before .judged2 .given .1)
 
 pub lay-one-spec : {M : Type 1} → statement M
 lay-one-spec =

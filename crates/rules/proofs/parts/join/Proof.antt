@@ -2,7 +2,7 @@
 -- Assumes nothing.
 use native.Mathlib.Omega.{arith}
 use borrow.Author.Needs.{needs}
-use Rattle.rules.proofs.PartLaws.{within, option-some, kind-small, present-one, join-none, join-some}
+use Rattle.rules.proofs.PartLaws.{within, option-some, present-one, join-none, join-some}
 use Rattle.rules.proofs.parts.join.Statement.{statement}
 use Rattle.rules.proofs.parts.join.Tie as tie
 
@@ -10,7 +10,7 @@ returns : tie.Need-returns
 returns c = join-none _ _ _ _ _ (c .if1 .taken)
 
 quad-requires : tie.Need-quad-requires
-quad-requires c κs = let l = option-some _ _ _ (c .if1 .left) (c .before .before .before .pre .3) .1 .low in let m = c .before .before .before .pre .4 .1 .low in let k = kind-small _ (c .before .before .before .pre .2) in omega arith
+quad-requires c κs = search needs
 
 mul-words : tie.Need-mul-words
 mul-words c = search needs

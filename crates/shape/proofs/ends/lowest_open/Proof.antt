@@ -5,6 +5,7 @@ use Prim.Native.Nat.{_-_}
 use native.Mathlib.Omega.{arith}
 use borrow.Author.Needs.{needs}
 use Rattle.shape.specs.Ends.{openAt}
+use Rattle.shape.specs.Walk.{kinds, lefts, rights}
 use Rattle.shape.specs.Lowest.{lowest}
 use Rattle.shape.proofs.Lowest.{lowest-end}
 use Rattle.shape.proofs.Blocks.{block-here, block-next}
@@ -12,11 +13,11 @@ use Rattle.shape.proofs.ends.lowest_open.Statement.{statement}
 use Rattle.shape.proofs.ends.lowest_open.Tie as tie
 
 abbrev Inv-loop : tie.InvT-loop
-Inv-loop kind left right row first end i₀ i =
-    lowest (openAt kind left right row) i (end - i) ≡ lowest (openAt kind left right row) first (end - first)
+Inv-loop table row first end i₀ i =
+    lowest (openAt (kinds table) (lefts table) (rights table) row) i (end - i) ≡ lowest (openAt (kinds table) (lefts table) (rights table) row) first (end - first)
 
 abbrev μ-loop : tie.MeasureT-loop
-μ-loop kind left right row first end i₀ i = end - i
+μ-loop table row first end i₀ i = end - i
 
 loop-holds : tie.Need-loop-holds Inv-loop μ-loop
 loop-holds c = refl

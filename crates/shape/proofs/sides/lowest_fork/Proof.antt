@@ -4,6 +4,7 @@ use mathlib.Core.Path.{_≡_, refl, sym, _∙_}
 use Prim.Native.Nat.{_-_}
 use borrow.Author.Needs.{needs}
 use Rattle.shape.specs.Sides.{forkAt}
+use Rattle.shape.specs.Walk.{kinds, lefts, rights}
 use Rattle.shape.specs.Lowest.{lowest}
 use Rattle.shape.proofs.Lowest.{lowest-end}
 use Rattle.shape.proofs.Blocks.{block-here, block-next}
@@ -11,11 +12,11 @@ use Rattle.shape.proofs.sides.lowest_fork.Statement.{statement}
 use Rattle.shape.proofs.sides.lowest_fork.Tie as tie
 
 abbrev Inv-loop : tie.InvT-loop
-Inv-loop kind left right look want row first end i₀ i =
-    lowest (forkAt kind left right look want row) i (end - i) ≡ lowest (forkAt kind left right look want row) first (end - first)
+Inv-loop table look want row first end i₀ i =
+    lowest (forkAt (kinds table) (lefts table) (rights table) look want row) i (end - i) ≡ lowest (forkAt (kinds table) (lefts table) (rights table) look want row) first (end - first)
 
 abbrev μ-loop : tie.MeasureT-loop
-μ-loop kind left right look want row first end i₀ i = end - i
+μ-loop table look want row first end i₀ i = end - i
 
 loop-holds : tie.Need-loop-holds Inv-loop μ-loop
 loop-holds c = refl

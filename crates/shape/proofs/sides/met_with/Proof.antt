@@ -17,11 +17,11 @@ Inv-loop look want letter first stop own-look own-want set₀ i₀ set i =
 abbrev μ-loop : tie.MeasureT-loop
 μ-loop look want letter first stop own-look own-want set₀ i₀ set i = i
 
-mask-at-requires : tie.Need-mask-at-requires Inv-loop μ-loop
-mask-at-requires c κs = search needs
+word-at-requires : tie.Need-word-at-requires Inv-loop μ-loop
+word-at-requires c κs = search needs
 
-mask-at-requires-2 : tie.Need-mask-at-requires-2 Inv-loop μ-loop
-mask-at-requires-2 c κs = search needs
+word-at-requires-2 : tie.Need-word-at-requires-2 Inv-loop μ-loop
+word-at-requires-2 c κs = search needs
 
 masks-end-requires : tie.Need-masks-end-requires Inv-loop μ-loop
 masks-end-requires c κs = search needs
@@ -34,7 +34,7 @@ loop-holds c =
       from,
       below,
       λ x l s. has-all x l
-          ∙ sym (unmasked (args .look .now) (args .want .now) (c .masks-end .result + x) (args .letter) (omega (arith, given .mask-at-arg .given .0, beyond (omega arith)))),
+          ∙ sym (unmasked (args .look .now) (args .want .now) (c .masks-end .result + x) (args .letter) (omega (arith, given .word-at-arg .given .0, beyond (omega arith)))),
     )
 
 sub-i : tie.Need-sub-i Inv-loop μ-loop
@@ -71,7 +71,7 @@ loop-again c =
       (λ h. omega (arith, at .inv .1 (turn .loop-test .taken))),
       passing-front (λ j. rivals (args .look .now) (args .want .now) j (args .letter)) _ _ _ (at .inv .2) _ (omega arith)
           (c .in-front .ensures .0 ∙ c .before .compatible .ensures
-          ∙ met (args .look .now) (args .want .now) (at .i - 1) (args .letter) refl refl (own .before .before .mask-at .ensures) (own .mask-at2 .ensures))
+          ∙ met (args .look .now) (args .want .now) (at .i - 1) (args .letter) refl refl (own .before .before .word-at .ensures) (own .word-at2 .ensures))
           (c .in-front .ensures .1),
     )
 
@@ -87,8 +87,8 @@ met-with-spec =
     (tie.spec
     Inv-loop
     μ-loop
-    mask-at-requires
-    mask-at-requires-2
+    word-at-requires
+    word-at-requires-2
     masks-end-requires
     loop-holds
     sub-i

@@ -1,8 +1,9 @@
 -- A word of four numbers below 65,536. Assumes nothing.
 use Prim.Native.Nat.{ℕ, _+_, _*_, _/_, _%_}
 
+-- of larger numbers it has the lowest 16 bits
 abbrev pub quad : (a b c d : ℕ) → ℕ
-quad a b c d = a + 65536 * (b + 65536 * (c + 65536 * d))
+quad a b c d = a % 65536 + 65536 * (b % 65536 + 65536 * (c % 65536 + 65536 * (d % 65536)))
 
 abbrev pub part0 : ℕ → ℕ
 part0 w = w % 65536

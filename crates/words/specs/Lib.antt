@@ -1,0 +1,2 @@
+-- What a word of four numbers is.
+pub mod Words
