@@ -328,7 +328,7 @@ pub fn kind(case: &Case) -> String {
     let last = sheet.split(|&b| b == b'\n').rev().nth(1).unwrap_or(&[]);
     let words: Vec<String> = last.split(|&b| b == b' ').map(|w| String::from_utf8_lossy(w).into_owned()).collect();
     match words[0].as_str() {
-        "refused" => format!("refused {}", words[1]),
+        "refused" => format!("refused {:>2}", words[1]),
         "clean" => String::from("clean"),
         _ => String::from("bad"),
     }
@@ -343,7 +343,7 @@ mod tests {
     #[test]
     fn every_kind_of_sheet_is_grown() {
         let grown: BTreeSet<String> = (0..20_000).map(|seed| kind(&case(&mut Random::new(seed)))).collect();
-        let all: BTreeSet<String> = (1..=15).map(|number| format!("refused {number}")).chain([String::from("clean"), String::from("bad")]).collect();
+        let all: BTreeSet<String> = (1..=15).map(|number| format!("refused {number:>2}")).chain([String::from("clean"), String::from("bad")]).collect();
         assert_eq!(grown, all);
     }
 

@@ -1,15 +1,16 @@
-//! The program: `waves trace`, `waves vcd` and `waves svg`. The result goes to standard output. A fault goes to standard error with exit status 1 and
+//! The program: `waves check`, `waves trace`, `waves vcd` and `waves svg`. The result goes to standard output. A fault goes to standard error with exit status 1 and
 //! leaves standard output empty; the wrong arguments are answered with how to use the program and exit status 2.
 
 use std::ffi::OsString;
 use std::io::Write;
 use std::path::{Path, PathBuf};
 use std::process::ExitCode;
-use waves::rules::Rules;
+use waves::rules::{Rules, Wire};
 use waves::sheet::Sheet;
 use waves::{library, rules, sheet, svg, table, vcd};
 
-const USAGE: &str = "usage: waves trace RULES TABLE           writes the trace of a table
+const USAGE: &str = "usage: waves check RULES                 says whether the rule text is accepted
+       waves trace RULES TABLE           writes the trace of a table
        waves vcd RULES TRACE SHEET         writes a waveform for wave viewers
        waves svg RULES TRACE SHEET         draws the last 64 ticks
        waves svg RULES TRACE SHEET FROM TO draws the ticks from one to another";
@@ -33,12 +34,24 @@ fn main() -> ExitCode {
 fn run(arguments: &[PathBuf]) -> Option<Result<Vec<u8>, String>> {
     let (command, rest) = arguments.split_first()?;
     match (command.to_str()?, rest) {
+        ("check", [rules]) => Some(check(rules)),
         ("trace", [rules, table]) => Some(trace(rules, table)),
         ("vcd", [rules, trace, sheet]) => Some(vcd(rules, trace, sheet)),
         ("svg", [rules, trace, sheet]) => Some(svg(rules, trace, sheet, None)),
         ("svg", [rules, trace, sheet, from, to]) => Some(svg(rules, trace, sheet, Some([from, to]))),
         _ => None,
     }
+}
+
+/// The counts, the wires and the monitors of an accepted text.
+fn check(file: &Path) -> Result<Vec<u8>, String> {
+    let text = read(file)?;
+    let rules = open(file, &text)?;
+    let sheet = library::sheet(&text, &[]);
+    let counts = String::from_utf8_lossy(&sheet).lines().next().unwrap_or_default().to_string();
+    let wires: Vec<String> = rules.wires.iter().map(Wire::label).collect();
+    let monitors: Vec<String> = rules.monitors.iter().enumerate().map(|(number, name)| format!("{number} {name}")).collect();
+    Ok(format!("accepted: {counts}\nwires: {}\nmonitors: {}\n", wires.join(", "), monitors.join(", ")).into_bytes())
 }
 
 fn trace(rules: &Path, table: &Path) -> Result<Vec<u8>, String> {

@@ -7,7 +7,7 @@ const REFUSALS: [(&str, &str); 18] = [
     ("misplaced", "the grammar does not allow this token, or the end of the text, here"),
     ("unknown", "a name that is not declared above, or not of a kind allowed here"),
     ("twice", "a name that is declared already"),
-    ("oversize", "a number, a bit index or a width that does not fit"),
+    ("oversize", "a number, a bit index or a width that does not fit, or a field that is not followed by == or ["),
     ("crowded", "one more than a limit of the rule text allows"),
     ("long run", "the monitors have more than 256 letters"),
     ("impossible", "a letter whose wire literals no word meets"),

@@ -21,6 +21,14 @@ impl Wire {
         u64::MAX >> (64 - self.width)
     }
 
+    /// The name, and for a field its bits.
+    pub fn label(&self) -> String {
+        if self.width == 1 {
+            return self.name.clone();
+        }
+        format!("{}[{}:0]", self.name, self.width - 1)
+    }
+
     /// The wire's value in a word.
     pub fn value(&self, word: u64) -> u64 {
         word >> self.low & self.largest()

@@ -46,7 +46,7 @@ pub fn chosen_ticks(from: &str, to: &str, sheet: &Sheet) -> Result<Range<usize>,
         return Err(format!("the first tick to show, {first}, is behind the last, {last}"));
     }
     if last >= sheet.ticks() {
-        return Err(format!("there is no tick {last}; the trace has ticks 0 to {}", sheet.ticks() - 1));
+        return Err(format!("there is no tick {last}; the sheet has ticks 0 to {}", sheet.ticks() - 1));
     }
     if last - first >= MOST_TICKS {
         return Err(format!("ticks {first} to {last} are more than the {MOST_TICKS} that a picture may show"));
@@ -103,7 +103,7 @@ fn head_lines(name: &str, rules: &Rules, sheet: &Sheet, ticks: &Range<usize>) ->
     let last = sheet.ticks().saturating_sub(1);
     lines.push(match (sheet.ticks(), ticks.len()) {
         (0, _) => String::from("the trace has no ticks"),
-        (all, shown) if all == shown => String::from("all ticks are shown"),
+        (all, shown) if all == shown => String::from("all judged ticks are shown"),
         (_, 1) => format!("tick {} is shown, of ticks 0 to {last}", ticks.start),
         _ => format!("ticks {} to {} are shown, of ticks 0 to {last}", ticks.start, ticks.end - 1),
     });
@@ -131,7 +131,7 @@ struct Picture<'a> {
 
 impl<'a> Picture<'a> {
     fn new(rules: &'a Rules, sheet: &'a Sheet, ticks: Range<usize>, head_lines: usize) -> Self {
-        let mut labels: Vec<String> = rules.wires.iter().map(label).collect();
+        let mut labels: Vec<String> = rules.wires.iter().map(Wire::label).collect();
         if labels.is_empty() {
             labels.push(String::from("(no wires)"));
         }
@@ -330,14 +330,6 @@ fn column_width(rules: &Rules, sheet: &Sheet, ticks: &Range<usize>) -> usize {
     width
 }
 
-/// The name of a wire, and of a field its bits.
-fn label(wire: &Wire) -> String {
-    if wire.width == 1 {
-        return wire.name.clone();
-    }
-    format!("{}[{}:0]", wire.name, wire.width - 1)
-}
-
 /// Below 10 decimal and hexadecimal are the same.
 fn value_text(value: u64) -> String {
     if value < 10 {
@@ -397,7 +389,7 @@ mod tests {
         assert_eq!(chosen("x", "3").unwrap_err(), "the tick \"x\" is no number; choose ticks by their numbers, such as 0 63");
         assert_eq!(chosen("3", "").unwrap_err(), "the tick \"\" is no number; choose ticks by their numbers, such as 0 63");
         assert_eq!(chosen("4", "3").unwrap_err(), "the first tick to show, 4, is behind the last, 3");
-        assert_eq!(chosen("3", "2000").unwrap_err(), "there is no tick 2000; the trace has ticks 0 to 1999");
+        assert_eq!(chosen("3", "2000").unwrap_err(), "there is no tick 2000; the sheet has ticks 0 to 1999");
         assert!(chosen("3", &"9".repeat(40)).is_err());
         assert_eq!(chosen("0", "1000").unwrap_err(), "ticks 0 to 1000 are more than the 1000 that a picture may show");
         assert_eq!(chosen_ticks("0", "0", &clean(0)).unwrap_err(), "the trace has no ticks, so none can be chosen");

@@ -28,6 +28,9 @@ pub fn read(table: &[u8], wires: &[Wire]) -> Result<Vec<u64>, Fault> {
     for (index, line) in text.lines().enumerate() {
         let fields: Vec<&str> = line.split('#').next().unwrap_or("").split_whitespace().collect();
         let skipped = fields.is_empty() || first && fields == HEADING;
+        if first && !skipped && fields[0].eq_ignore_ascii_case(HEADING[0]) {
+            return Err(Fault { line: index + 1, message: format!("a heading must be: {}", HEADING.join(" ")) });
+        }
         if !skipped {
             trace.row(&fields).map_err(|message| Fault { line: index + 1, message })?;
         }
@@ -173,6 +176,12 @@ mod tests {
         fault(b"+1\n", 1, "the tick \"+1\" is no number; ticks are counted 0, 1, 2 and so on");
         fault(b"0 a 1\ntick wire value\n", 2, "the tick \"tick\" is no number; ticks are counted 0, 1, 2 and so on");
         fault(b"\n5 a 1\n4 a 0\n", 3, "tick 4 stands below tick 5; ticks never go back, so move this row up");
+    }
+
+    #[test]
+    fn a_heading_names_tick_wire_and_value() {
+        fault(b"# columns\nTick Wire Value\n0 a 1\n", 2, "a heading must be: tick wire value");
+        fault(b"tick a f b\n", 1, "a heading must be: tick wire value");
     }
 
     #[test]

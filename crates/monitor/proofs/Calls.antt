@@ -10,7 +10,7 @@ use lib.ListN.{length, getD}
 use Rattle.meaning.specs.Lists.{_∈_, carry, total}
 use Rattle.meaning.specs.Answers.{value}
 use Rattle.meaning.specs.Expression.{Letter, Exp, star, letters, size, rows, renumbered, Ordered, numberedFrom}
-use Rattle.meaning.specs.Shape.{agree, AllSized, AllRead}
+use Rattle.meaning.specs.Shape.{agree, AllSized}
 use Rattle.meaning.specs.Fit.{Tick, meets, write}
 use Rattle.meaning.specs.Positions as machine
 use Rattle.meaning.specs.Table.{Table}
@@ -37,7 +37,7 @@ use Rattle.monitor.proofs.LetterTests.{LetterGiven, letter-met, letter-
 use Rattle.monitor.proofs.Coded.{Coded}
 use Rattle.monitor.proofs.Memory.{Memory, rowsOf, memory-empty}
 use Rattle.monitor.proofs.MemoryLaws.{asks-right, leaves-right}
-use Rattle.monitor.proofs.Monitors.{Standing, AllStanding, all-go}
+use Rattle.monitor.proofs.Monitors.{AllStanding, all-go}
 use Rattle.monitor.proofs.Moves.{AllWriteAs, MarksAll}
 use Rattle.monitor.proofs.Watching.{Steps, steps-right}
 use Rattle.monitor.proofs.Replies.{Like, machine-replies}
@@ -81,7 +81,6 @@ original l (k ∷ ms) o m i x j = ⊎-elim
 
 module _ (text : List ℕ) (o : Opened) (e : openText text ≡ value o) (m : Exp) (i : m ∈ programOf o) (x : Letter) (j : x ∈ letters m) where
   readable : (σ : List ℕ) → length σ ≡ length (o .initial) → Readable x (length σ)
-  unfolding programOf
   readable σ long =
       let (k, y, p, q, r, s) = original 0 (o .monitors) (λ n u. all-read text o e n u .0) m i x j in
       let a = accepted-readable text o e k p y q in
@@ -170,14 +169,11 @@ module _ (text : List ℕ) (o : Opened) (e : openText text ≡ value o) where
   c : Program.Counted o
   c = Program.text-counted text o e
 
-  read-all : AllRead (o .monitors)
-  read-all = all-read text o e
-
   ordered : (m : Exp) → m ∈ o .monitors → Ordered 0 m
-  ordered m i = read-all m i .0
+  ordered m i = all-read text o e m i .0
 
   solid : (m : Exp) → m ∈ o .monitors → Ordered 0 m × Solid (star m)
-  solid m i = (read-all m i .0, accept-solid m (read-all m i .1))
+  solid m i = (all-read text o e m i .0, accept-solid m (all-read text o e m i .1))
 
   stands : AllStanding (Program.tableOf o) (v .places) (layoutOf v) (o .rowCount) 0 0 0 (o .monitors)
   unfolding v
@@ -198,7 +194,7 @@ module _ (text : List ℕ) (o : Opened) (e : openText text ≡ value o) where
 
     step-from : (K : List ℕ) (xs : List machine.Positions) → MarksAll K 0 0 (o .monitors) xs
         → Steps (o .monitors) (at w σ) σ padded (length (o .initial)) (machine.goEach 0 (o .monitors) xs (at w σ)) (stepWithin g (layoutOf v) K)
-    unfolding v programOf
+    unfolding v
     step-from K xs h =
         steps-right Good (λ M p. p .long) (λ M p. p .bits) (memory-empty (rowsOf steps (Program.tableOf o) (at w σ)) (o .rowCount)) g (at w σ) (layoutOf v) K (o .monitors) ordered
         (Program.monitors-counted o c) (c .few-monitors) (Program.letters-counted o c ∙ sym (c .letters-are)) (let a = c .few-letters in let b = c .letters-are in omega (arith, a, b))

@@ -1,6 +1,5 @@
 -- What is said of a tick's numbers where they come from a program: the rows' words stand for the rows of a table, and each letter's numbers for its test. Assumes nothing.
 use mathlib.Core.Path.{_≡_}
-use mathlib.Core.List.{List}
 use Prim.Native.Nat.{ℕ, _<_, _≤_}
 use lib.ListN.{getD}
 use Rattle.meaning.specs.Fit.{Tick, meets}

@@ -17,6 +17,7 @@ use Rattle.rules.specs.Laying.{slotWord, slotNumber, twoSlots, slotsOf}
 use Rattle.rules.specs.Monitors.{withMonitors}
 use Rattle.rules.specs.Watches.{noLists, watchBy}
 use Rattle.rules.specs.declared.Watch.{Watch}
+use Rattle.rules.proofs.Overlay.{two-long}
 use Rattle.rules.proofs.Placing.{letters-long}
 use Rattle.monitor.proofs.Stored.{stands-at, front, rear, stored}
 use Rattle.monitor.proofs.Numbered.{InOrder, numbers-below}
@@ -74,14 +75,9 @@ module _ (h : Letter → List ℕ) (four : (x : Letter) → length (h x) ≡ 4) 
   slots-long [] = refl
   slots-long (x ∷ xs) = omega (arith, length-append (h x) (each xs h), four x, slots-long xs)
 
-two-slots : (xs : List Link) → length (twoSlots xs) ≡ 2
-two-slots [] = refl
-two-slots (x ∷ []) = refl
-two-slots (y ∷ x ∷ xs) = refl
-
 four-slots : (f : Option Link → ℕ) (x : Letter) → length (map f (slotsOf x)) ≡ 4
 four-slots f x =
-    omega (arith, length-map (slotsOf x) f, length-append (twoSlots (testsOn [] (x .literals))) (twoSlots (writesOn [] (x .writes))), two-slots (testsOn [] (x .literals)), two-slots (writesOn [] (x .writes)))
+    omega (arith, length-map (slotsOf x) f, length-append (twoSlots (testsOn [] (x .literals))) (twoSlots (writesOn [] (x .writes))), two-long (testsOn [] (x .literals)), two-long (writesOn [] (x .writes)))
 
 -- a letter's numbers stand at its own number
 pub record LetterStands (v : Watch) (x : Letter) : Type 0 where

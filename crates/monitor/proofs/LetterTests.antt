@@ -6,16 +6,18 @@ use mathlib.Core.Option.{Option, none, some}
 use Prim.Native.Nat.{ℕ, zero, suc, _+_, _*_, _/_, _%_, _^_, _≤_, _<_, min}
 use native.Mathlib.Omega.{arith}
 use native.Mathlib.Nat.{add-zero, mod-le, le-trans, lt-of-le-of-lt}
-use lib.Dec.{T, eqb, eqb·suc-zero}
+use lib.Dec.{eqb, eqb·suc-zero}
 use lib.Bits.{and-mask}
 use lib.Pow.{shr-le}
 use lib.ListN.{length, getD, set, length-set}
-use borrow.Author.Tests.{eqb-true, eqb-false, eq-eqb, ne-eqb}
+use borrow.Author.Tests.{eqb-false, ne-eqb}
 use Rattle.meaning.specs.Lists.{all, carry}
 use Rattle.meaning.specs.Expression.{Literal, wire, wire-store, store, Write, from-wire, from-number, Letter, field}
 use Rattle.meaning.specs.Shape.{wireHolds}
 use Rattle.meaning.specs.Masks.{look, want, passes}
 use Rattle.meaning.specs.Fit.{Tick, valueOf, holds, meets, write}
+use Rattle.lexer.proofs.Bools.{eqb-sym}
+use Rattle.meaning.proofs.ListLaws.{same-truth}
 use Rattle.meaning.proofs.Masks.{meets-passes, passes-meets}
 use Rattle.meaning.proofs.Within.{Each, Within, WriteWithin}
 use Rattle.words.specs.Words.{quad, part0}
@@ -146,13 +148,6 @@ and-apart : (a b c : Bool) → ((a && b) && c) ≡ (a && (b && c))
 and-apart true b c = refl
 and-apart false b c = refl
 
-eqb-swap : (a b : ℕ) → eqb a b ≡ eqb b a
-eqb-swap a b = by (eqb b a) refl
-  where
-    by : (t : Bool) → eqb b a ≡ t → eqb a b ≡ t
-    by true e = eq-eqb a b (sym (eqb-true b a e))
-    by false e = ne-eqb a b (λ f. eqb-false b a e (sym f))
-
 -- a literal that is a test, among those before
 to-front : (a b c : Bool) → (a && (b && c)) ≡ ((b && a) && c)
 to-front a b c = sym (and-apart a b c) ∙ ap (λ z. z && c) (and-swap a b)
@@ -168,7 +163,7 @@ meets-parts t xs (wire lo width v ∷ ls) =
     to-front a h (all (holds t) ls) ∙ and-apart h a (all (holds t) ls) ∙ ap (λ z. h && z) (meets-parts t xs ls) ∙ sym (and-apart h _ _)
 meets-parts t xs (wire-store lo width s ∷ ls) =
     let e : eqb (field lo width (t .word)) (valueOf (t .stores) s) ≡ linkHolds t (link s lo width 0)
-    = eqb-swap (field lo width (t .word)) (valueOf (t .stores) s) ∙ ap (eqb (valueOf (t .stores) s)) (sym (field-means lo width (t .word))) in
+    = eqb-sym (field lo width (t .word)) (valueOf (t .stores) s) ∙ ap (eqb (valueOf (t .stores) s)) (sym (field-means lo width (t .word))) in
     ap (λ z. all (linkHolds t) xs && (z && all (holds t) ls)) e ∙ to-front (all (linkHolds t) xs) (linkHolds t (link s lo width 0)) (all (holds t) ls) ∙ meets-parts t (link s lo width 0 ∷ xs) ls
 meets-parts t xs (store s v ∷ ls) = to-front (all (linkHolds t) xs) (linkHolds t (link s 0 0 v)) (all (holds t) ls) ∙ meets-parts t (link s 0 0 v ∷ xs) ls
 
@@ -177,12 +172,6 @@ two-hold t [] l = refl
 two-hold t (x ∷ []) l = refl
 two-hold t (y ∷ x ∷ []) l = ap (λ z. linkHolds t y && z) (and-true (linkHolds t x)) ∙ and-swap (linkHolds t y) (linkHolds t x)
 two-hold t (z ∷ y ∷ x ∷ xs) l = absurd (omega arith)
-
-both-ways : (a b : Bool) → (T a → T b) → (T b → T a) → a ≡ b
-both-ways true true f h = refl
-both-ways true false f h = absurd (f tt)
-both-ways false true f h = absurd (h tt)
-both-ways false false f h = refl
 
 module _ (n k : ℕ) (wires : n ≤ 64) where
   tests-fit : (xs : List Link) (ls : List Literal) → Each (LinkFits k) xs → Each (Within n k) ls → Each (LinkFits k) (testsOn xs ls)
@@ -270,7 +259,7 @@ module _ (g : Given) (i : ℕ) (x : Letter) (σ : List ℕ) (given : LetterGiven
       let (f₀, f₁) = both-fit (length σ) tests (tests-fit (readable .wires) (length σ) (readable .few-wires) [] (x .literals) tt (inside .literals)) in
       let masks : passes (getD (g .look) i 0) (getD (g .want) i 0) (g .word) ≡ all (wireHolds (g .word)) (x .literals)
       = ap₂ (λ (a b : ℕ). passes a b (g .word)) (given .looks) (given .wants)
-      ∙ both-ways _ _ (passes-meets (x .literals) (readable .sized) (readable .agreed) (g .word)) (meets-passes (x .literals) (readable .sized) (readable .agreed) (g .word)) in
+      ∙ same-truth _ _ (passes-meets (x .literals) (readable .sized) (readable .agreed) (g .word)) (meets-passes (x .literals) (readable .sized) (readable .agreed) (g .word)) in
       let test₀ = slot-test g (length σ) few (4 * i) σ few e (slot 0 tests) f₀ (subst (λ (j : ℕ). SlotGiven g j (slot 0 tests)) (add-zero (4 * i)) (slot-given 0 (omega arith))) in
       let test₁ = slot-test g (length σ) few (4 * i + 1) σ few e (slot 1 tests) f₁ (slot-given 1 (omega arith)) in
       let short : length tests ≤ 2 = omega (arith, tests-length [] (x .literals), inside .few-tests) in

@@ -7,14 +7,15 @@ use mathlib.Core.Logic.{_⊎_, inl, inr, ⊎-elim}
 use Prim.Native.Nat.{ℕ, zero, suc, _+_, _<_, _≤_}
 use native.Mathlib.Omega.{arith}
 use native.Mathlib.Decide.{ℕ-discrete}
-use lib.Dec.{T, eqb, eqb→eq, eqb-refl, leb}
+use lib.Dec.{eqb, leb}
 use borrow.Author.Tests.{eqb-true, eqb-false, lt-leb}
 use lib.ListN.{length, getD, set, length-set}
 use lib.Seq.{getD-set-same, getD-set-other}
 use Rattle.meaning.specs.Fit.{Tick, meets}
 use Rattle.meaning.specs.Positions.{Entered, met, passed, blocked, thenEnter, orEnter, orPass, goesBy}
 use Rattle.meaning.specs.Table.{Kind, is-letter, is-seq, is-alt, is-star, is-pipe, Table, enterBy, leaveBy, enterRow, askRow, leaveRow}
-use Rattle.meaning.proofs.ListLaws.{here, one-∈, same-truth}
+use Rattle.lexer.proofs.Bools.{eqb-sym}
+use Rattle.meaning.proofs.ListLaws.{here, one-∈}
 use Rattle.meaning.proofs.Ends.{entersBy, leavesBy, EnterEnds, AskEnds, LeaveEnds, enter-calls, enter-unfolds, ask-unfolds, passes-on, leave-calls, leave-unfolds, own-calls, own-unfolds}
 use Rattle.words.specs.Words.{part3}
 use Rattle.monitor.specs.Letters.{Given}
@@ -62,13 +63,6 @@ module _ {Good : List ℕ → Type 0} where
 told-by : (b : Bool) → eqb (answerCode b) 2 ≡ b
 told-by true = refl
 told-by false = refl
-
--- the test of equality, turned round
-eqb-sym : (m n : ℕ) → eqb m n ≡ eqb n m
-eqb-sym m n = same-truth (eqb m n) (eqb n m) (turned m n) (turned n m)
-  where
-    turned : (m n : ℕ) → T (eqb m n) → T (eqb n m)
-    turned m n e = rw (eqb→eq m n e) (eqb-refl n)
 
 -- an element after a store
 after-set : (M : List ℕ) (i j v : ℕ) → i < length M → ((j ≡ i) × (getD (set M i v) j 0 ≡ v)) ⊎ (getD (set M i v) j 0 ≡ getD M j 0)

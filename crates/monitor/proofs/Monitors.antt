@@ -20,12 +20,13 @@ use Rattle.meaning.proofs.Ends.{AskEnds, LeaveEnds}
 use Rattle.meaning.proofs.Walk.{top-asks, letter-leaves}
 use Rattle.meaning.proofs.Numbering.{renumbered-size, renumbered-rows, renumbered-ordered, numbered}
 use Rattle.meaning.proofs.Shifted.{shift, shiftPositions, go-renumbered, renumbered-solid}
+use Rattle.rules.proofs.Placing.{letters-long}
 use Rattle.monitor.specs.Letters.{Given}
 use Rattle.monitor.specs.Walk.{askM, leaveM}
 use Rattle.monitor.specs.Ticks.{steps, Layout, lettersEnd, monitorGoes}
 use Rattle.monitor.proofs.Memory.{Goes}
 use Rattle.monitor.proofs.Going.{MarksAre, goBy, both-go, AllGo}
-use Rattle.monitor.proofs.Moves.{Counted, letters-long, ordered-counted, MarksAll}
+use Rattle.monitor.proofs.Moves.{Counted, ordered-counted, MarksAll}
 
 -- letters numbered one after the other have every number in between
 counted-has : (j : ℕ) (xs : List Letter) → Counted j xs → (k : ℕ) → j ≤ k → k < j + length xs → (x : Letter) × (x ∈ xs) × (x .number ≡ k)

@@ -2,18 +2,18 @@
 use mathlib.Core.Path.{_≡_, refl, sym, ap, ap₂, _∙_, subst}
 use mathlib.Core.Bool.{Bool, true, false, not, cond}
 use mathlib.Core.List.{List, [], _∷_, _++_, append-assoc}
-use mathlib.Core.Logic.{_⊎_, ⊎-elim}
+use mathlib.Core.Logic.{⊎-elim}
 use Prim.Native.Nat.{ℕ, zero, suc, _+_, _<_, _≤_}
 use native.Mathlib.Omega.{arith}
 use lib.Dec.{T, eqb, eqb→eq, eqb-refl}
-use lib.ListN.{length, length-append, getD}
+use lib.ListN.{length, getD}
 use Rattle.meaning.specs.Lists.{_∈_, each, carry, only, member, total}
 use Rattle.meaning.specs.Expression.{Letter, Exp, letter, seq, alt, star, pipe, letters, size, Ordered}
 use Rattle.meaning.specs.Fit.{Tick, write, writeMet}
 use Rattle.meaning.specs.Positions.{Positions, kept, keptEach, writeEach}
-use Rattle.meaning.proofs.ListLaws.{here, there, clash, no-∈, append-∈, ∈-left, ∈-right, map-∈, ∈-map, any-from, any-to}
-use Rattle.meaning.proofs.ListLaws.{same-truth as same-test}
+use Rattle.meaning.proofs.ListLaws.{here, there, clash, no-∈, append-∈, ∈-left, ∈-right, map-∈, ∈-map, any-from, any-to, same-truth}
 use Rattle.meaning.proofs.Shifted.{shiftAll, shiftPositions}
+use Rattle.rules.proofs.Placing.{letters-long}
 use Rattle.monitor.specs.Letters.{Given, writeLetter}
 use Rattle.monitor.specs.Ticks.{writeIf, writeMarked}
 use Rattle.monitor.proofs.LetterTests.{writes-length}
@@ -31,14 +31,6 @@ counted-append j [] ys a b = let e : j + 0 ≡ j = omega arith in subst (λ (n :
 counted-append j (x ∷ xs) ys a b =
     let e : j + suc (length xs) ≡ suc j + length xs = omega arith in
     (a .0, counted-append (suc j) xs ys (a .1) (subst (λ (n : ℕ). Counted n ys) e b))
-
-pub letters-long : (e : Exp) → length (letters e) ≡ size e
-unfolding letters size
-letters-long (letter l) = refl
-letters-long (seq e f) = length-append (letters e) (letters f) ∙ ap₂ _+_ (letters-long e) (letters-long f)
-letters-long (alt e f) = length-append (letters e) (letters f) ∙ ap₂ _+_ (letters-long e) (letters-long f)
-letters-long (star e) = letters-long e
-letters-long (pipe e f) = length-append (letters e) (letters f) ∙ ap₂ _+_ (letters-long e) (letters-long f)
 
 counted-two : (j : ℕ) (e f : Exp) → Counted j (letters e) → Counted (j + size e) (letters f) → Counted j (letters e ++ letters f)
 counted-two j e f a b = counted-append j (letters e) (letters f) a (subst (λ (n : ℕ). Counted (j + n) (letters f)) (sym (letters-long e)) b)
@@ -150,7 +142,7 @@ from-member n ns h = let (d, u, e) = any-to (eqb n) ns h in subst (λ (z : ℕ).
 member-here : (pre ns rest : List ℕ) (l n i : ℕ) → ((k : ℕ) → k ∈ pre → k < l) → ((k : ℕ) → k ∈ rest → l + n ≤ k) → i < n
     → member (l + i) (pre ++ (shiftAll l ns ++ rest)) ≡ member i ns
 member-here pre ns rest l n i below above h =
-    same-test (member (l + i) (pre ++ (shiftAll l ns ++ rest))) (member i ns) (λ p. to-member i ns (inner (from-member (l + i) _ p)))
+    same-truth (member (l + i) (pre ++ (shiftAll l ns ++ rest))) (member i ns) (λ p. to-member i ns (inner (from-member (l + i) _ p)))
     (λ p. to-member (l + i) _ (∈-right pre (∈-left rest (shift-in l i ns (from-member i ns p)))))
   where
     late : l + i ∈ rest → i ∈ ns

@@ -15,6 +15,7 @@ use Rattle.meaning.specs.Fit.{Tick, meets}
 use Rattle.meaning.specs.Opening.{Opened, asOpened, openText}
 use Rattle.meaning.specs.Table.{Table, laidAll, noRow, asTable}
 use Rattle.meaning.proofs.Numbering.{renumbered-size, renumbered-rows}
+use Rattle.meaning.proofs.RowCount.{total-renumbered}
 use Rattle.meaning.proofs.Rows.{Stands, rows-no-more}
 use Rattle.meaning.proofs.Openings.{accepted-text, rows-fit}
 use Rattle.meaning.proofs.Openings as openings
@@ -95,10 +96,6 @@ pub record Counted (o : Opened) : Type 0 where
   pub few-letters : o .letterCount ≤ 256
   pub few-monitors : length (o .monitors) ≤ 32
 
-total-renumbered : (ms : List Exp) → total size (map (renumbered 0) ms) ≡ total size ms
-total-renumbered [] = refl
-total-renumbered (m ∷ ms) = ap₂ _+_ (renumbered-size 0 m) (total-renumbered ms)
-
 pub text-counted : (text : List ℕ) (o : Opened) → openText text ≡ value o → Counted o
 unfolding asOpened
 text-counted text o e =
@@ -108,7 +105,7 @@ text-counted text o e =
     let count : total size ms ≡ o .letterCount = ap (λ z. z .letterCount) (a .opens) in
     record {
       rows-are = sym (rows-no-more 0 (o .monitors)) ∙ openings.rows-right text o e .0;
-      letters-are = ap (total size) same ∙ total-renumbered ms ∙ count;
+      letters-are = ap (total size) same ∙ total-renumbered size (renumbered-size 0) ms ∙ count;
       few-rows = rows-fit text o e;
       few-letters = omega (arith, count, a .few);
       few-monitors = omega (arith, ap length same, length-map ms (renumbered 0), few-monitors text (a .program) (a .reads));

@@ -23,19 +23,19 @@ use Rattle.rules.proofs.Placing.{codes-long, letters-long}
 use Rattle.rules.proofs.LongRun.{Ahead, Next, all-ahead, next-ahead, none-ahead}
 use Rattle.rules.proofs.OneMonitor.{OpensAs}
 
-same-lists : {R R′ : List ℕ} {L L′ : LetterLists} {S S′ F F′ : List ℕ} → R ≡ R′ → L ≡ L′ → S ≡ S′ → F ≡ F′ → lists R L S F ≡ lists R′ L′ S′ F′
-same-lists {R} {R′} {L} {L′} {S} {S′} {F} {F′} p q r s = ap₂ (λ (x : List ℕ) (y : LetterLists). lists x y S F) p q ∙ ap₂ (λ (x y : List ℕ). lists R′ L′ x y) r s
+same-lists : {T T′ : List ℕ} {L L′ : LetterLists} {S S′ F F′ : List ℕ} → T ≡ T′ → L ≡ L′ → S ≡ S′ → F ≡ F′ → lists T L S F ≡ lists T′ L′ S′ F′
+same-lists {T} {T′} {L} {L′} {S} {S′} {F} {F′} p q r s = ap₂ (λ (x : List ℕ) (y : LetterLists). lists x y S F) p q ∙ ap₂ (λ (x y : List ℕ). lists T′ L′ x y) r s
 
 -- a monitor is stored, and then those behind it
-one-more : (R R′ : List ℕ) (L L′ : LetterLists) (S F : List ℕ) (i row index r l : ℕ) (m : Exp) (ms : List Exp) → Stored row row index m R R′ L L′ r l
-    → withMonitors (lists R′ L′ (set S i row) (set F i index)) (i + 1) r l ms ≡ withMonitors (lists R L S F) i row index (m ∷ ms)
+one-more : (T T′ : List ℕ) (L L′ : LetterLists) (S F : List ℕ) (i row index r l : ℕ) (m : Exp) (ms : List Exp) → Stored row row index m T T′ L L′ r l
+    → withMonitors (lists T′ L′ (set S i row) (set F i index)) (i + 1) r l ms ≡ withMonitors (lists T L S F) i row index (m ∷ ms)
 unfolding codesAll startsBy
-one-more R R′ L L′ S F i row index r l m ms s =
+one-more T T′ L L′ S F i row index r l m ms s =
     let a = s .next-row in
     let b = s .next-letter in
     rw (a, b, add-one i) (same-lists
     (ap (λ (A : List ℕ). withRows A (row + rows m) (codesAll (row + rows m) (index + size m) ms)) (s .rows-stored)
-    ∙ rows-behind R row (rowCodes row row index m) (row + rows m) (codesAll (row + rows m) (index + size m) ms) (omega (arith, codes-long row row index m)))
+    ∙ rows-behind T row (rowCodes row row index m) (row + rows m) (codesAll (row + rows m) (index + size m) ms) (omega (arith, codes-long row row index m)))
     (ap (λ (A : LetterLists). withLetters A (index + size m) (each ms letters)) (s .letters-stored)
     ∙ letters-behind L index (letters m) (index + size m) (each ms letters) (omega (arith, letters-long m)))
     refl refl)
@@ -69,12 +69,12 @@ module _ (P M : List ℕ) (count : ℕ) (A₀ : Lists) where
     low = omega arith;
   }
 
-  module _ (R : List ℕ) (L : LetterLists) (S F : List ℕ) (i row index : ℕ) (a : AllGoing P M count A₀ (lists R L S F) i row index) where
+  module _ (T : List ℕ) (L : LetterLists) (S F : List ℕ) (i row index : ℕ) (a : AllGoing P M count A₀ (lists T L S F) i row index) where
     -- row and letter numbers are small
     pub small : FewLetters P M count → (row ≤ 1024) × (index ≤ 256)
     small (c, ms, w, b) = let s = a c ms w b in (omega (arith, s .low, s .letters-sum), omega (arith, s .letters-sum))
 
-    pub going-end : (i < count → ⊥) → AllOpened P M count A₀ (lists R L S F) (record { fault = 0; monitor = 0; letter = 0; rows = row; letters = index })
+    pub going-end : (i < count → ⊥) → AllOpened P M count A₀ (lists T L S F) (record { fault = 0; monitor = 0; letter = 0; rows = row; letters = index })
     unfolding OpenedBy misshapen codesAll startsBy
     going-end l c ms w b =
         let s = a c ms w b in
@@ -84,7 +84,7 @@ module _ (P M : List ℕ) (count : ℕ) (A₀ : Lists) where
         fine refl (
           λ o. s .same o ∙ ap (λ (x : List Exp). misshapen i (map (renumbered 0) x) o) e,
           record {
-            tables = sym (ap (λ (x : List Exp). withMonitors (lists R L S F) i row index x) e) ∙ s .tables;
+            tables = sym (ap (λ (x : List Exp). withMonitors (lists T L S F) i row index x) e) ∙ s .tables;
             row-count = omega (arith, s .rows-sum);
             letter-count = omega (arith, s .letters-sum);
           },
@@ -112,7 +112,7 @@ module _ (P M : List ℕ) (count : ℕ) (A₀ : Lists) where
           a c ms w b .same o ∙ ap (λ (y : List Exp). misshapen i (map (renumbered 0) y) o) (n .split)
           ∙ ap (λ (y : Shape). byShape i y (misshapen (suc i) (map (renumbered 0) (n .others)) o)) e
 
-      module _ (R′ : List ℕ) (L′ : LetterLists) (f letter r next : ℕ) (d : OpensAs P (getD M i 0) row index R R′ L L′ f letter r next) where
+      module _ (T′ : List ℕ) (L′ : LetterLists) (f letter r next : ℕ) (d : OpensAs P (getD M i 0) row index T T′ L L′ f letter r next) where
         pub going-refused : (f ≡ 0 → ⊥) → (A : Lists) → AllOpened P M count A₀ A (record { fault = f; monitor = i; letter = letter; rows = 0; letters = 0 })
         unfolding OpenedBy
         going-refused z A c ms w b =
@@ -121,7 +121,7 @@ module _ (P M : List ℕ) (count : ℕ) (A₀ : Lists) where
             let t = d c (n .monitor) (at-next c ms w b n) in
             faulted z (asked c ms w b n (turned-away f letter) (ill (t .answers) z))
 
-        pub going-next : f ≡ 0 → AllGoing P M count A₀ (lists R′ L′ (set S i row) (set F i index)) (i + 1) r next
+        pub going-next : f ≡ 0 → AllGoing P M count A₀ (lists T′ L′ (set S i row) (set F i index)) (i + 1) r next
         going-next z c ms w b =
             let s = a c ms w b in
             let n = next-ahead i (s .rest) (s .ahead) l in
@@ -135,7 +135,7 @@ module _ (P M : List ℕ) (count : ℕ) (A₀ : Lists) where
               rest = n .others;
               ahead = n .ahead;
               same = λ o. asked c ms w b n accepted e o ∙ rw (add-one i);
-              tables = one-more R R′ L L′ S F i row index r next m (n .others) g ∙ sym (ap (λ (x : List Exp). withMonitors (lists R L S F) i row index x) (n .split))
+              tables = one-more T T′ L L′ S F i row index r next m (n .others) g ∙ sym (ap (λ (x : List Exp). withMonitors (lists T L S F) i row index x) (n .split))
                   ∙ s .tables;
               rows-sum = omega (arith, s .rows-sum, g .next-row);
               letters-sum = omega (arith, s .letters-sum, g .next-letter);

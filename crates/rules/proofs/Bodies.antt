@@ -22,6 +22,7 @@ use Rattle.rules.specs.Parts.{PartIs}
 use Rattle.rules.specs.Tasks.{Gains, Fails}
 use Rattle.rules.specs.Expressions.{Named, Closes, Outer, behindWhole, Whole}
 use Rattle.rules.specs.Defined.{Begins, Defines, HeadAt, CellWritten}
+use Rattle.lexer.proofs.Bools.{and-false}
 use Rattle.rules.proofs.Stepping.{well, ill, no}
 use Rattle.rules.proofs.OnNumber.{on-token}
 use Rattle.words.proofs.Quads.{quad-0, quad-1, quad-2, quad-3}
@@ -99,10 +100,6 @@ one-sign j k n (token.number m) e = refl
 one-sign j k n (token.sign m) e = ne-eqb k m (λ (q : k ≡ m). n (let p = eqb-true j m e in omega arith))
 one-sign j k n token.end e = refl
 one-sign j k n (token.refused m) e = refl
-
-and-false : (b : Bool) → (b && false) ≡ false
-and-false true = refl
-and-false false = refl
 
 -- a `)` that closes nothing is refused as anything else is that is no `;`
 no-paren : (t : Placed) (s : Step) → choose (is 7 t) (notHere t) (choose (is 0 t) s (notHere t)) ≡ choose (is 0 t) s (notHere t)

@@ -21,7 +21,7 @@ use Rattle.rules.specs.declared.literals.Literals.{Literals}
 use Rattle.rules.specs.declared.tokens.Seen.{Seen}
 use Rattle.rules.specs.Seen.{seen, Sees}
 use Rattle.words.specs.Words.{part0, part1, part2}
-use Rattle.rules.specs.Cells.{at, link, Links, testsOn, flag, Means, InputAt, StoreAt, DefineAt, Cells, Declared, Finds}
+use Rattle.rules.specs.Cells.{at, link, Links, testsOn, Means, InputAt, StoreAt, DefineAt, Cells, Declared, Finds}
 use Rattle.rules.specs.Picks.{kindNumber, Only, bytesOf, Picks}
 use Rattle.rules.specs.Reads.{readFrom, Unless, fine, faulted, Past, Behind, NumberRead}
 use Rattle.rules.specs.Conditions.{Spent, ConditionIs, mostOf, From, Given, Added, Refuses, Adds, Joined, Linked, LinkedBoth, TestsAre, behind, byStore, byDefine, byTest, byName}
@@ -29,6 +29,7 @@ use Rattle.rules.proofs.Stepping.{well, ill, wrong, right, yes, no, fau
 use Rattle.rules.proofs.OnNumber.{Numeric, number-past, number-most, number-refused, number-on}
 use Rattle.rules.proofs.Put.{extends-refl, extends-then}
 use Rattle.rules.proofs.Kept.{cells-kept}
+use Rattle.rules.proofs.PartLaws.{is-flag}
 use Rattle.rules.proofs.Tested.{wire-added, retested, store-test, wire-test, test-added, define-added}
 use Rattle.rules.proofs.Picking.{missing, present, known-name, cell-kind}
 
@@ -457,15 +458,11 @@ module _ (text P : List ℕ) (pos c h : ℕ) (t : Seen) (sees : Sees text pos t)
                 omega (arith, b .count, e .tests .count, en ∙ d .tests, count-append ls ds);
             reads = λ ns y ls e. (
               ls ++ ds,
-              define-added P c free all new Q q r l w b n other ls ds e j (el ∙ d .looks) (ew ∙ d .wants) (eb ∙ ap (λ (z : ℕ). eqb z 1) (ea ∙ d .agrees) ∙ flagged (agree ds)) (d .sized) (define-tests ds d n other en eo) k,
+              define-added P c free all new Q q r l w b n other ls ds e j (el ∙ d .looks) (ew ∙ d .wants) (eb ∙ ap (λ (z : ℕ). eqb z 1) (ea ∙ d .agrees) ∙ is-flag (agree ds)) (d .sized) (define-tests ds d n other en eo) k,
               λ x m. ap (behind text t) (right _ _ _ _ (not-many most (q .tests) n (storeTests ds) x ls m (e .tests .count) (en ∙ d .tests) few)),
             );
           });
         }
-      where
-        flagged : (z : Bool) → eqb (flag z) 1 ≡ z
-        flagged true = refl
-        flagged false = refl
 
 -- ---- the name of a store
 

@@ -9,13 +9,13 @@ use lib.ListN.{length, set}
 use Rattle.lexer.specs.Tokens.{Token, Placed}
 use Rattle.meaning.specs.Expression.{Exp, Literal}
 use Rattle.meaning.specs.Answers.{value}
-use Rattle.meaning.specs.Reading.{Names, aProduction, byKind, Step, finished, fault, notHere, known, noPair, noLiterals, monitorName, monitorMore, textEnd, atEnd, step}
+use Rattle.meaning.specs.Reading.{Names, aProduction, byKind, Step, finished, fault, notHere, known, noPair, noLiterals, monitorName, monitorMore, textEnd, programOf, atEnd, step}
 use Rattle.rules.specs.declared.tokens.Seen.{Seen}
 use Rattle.rules.specs.Seen.{seen, Sees, tokenOf}
 use Rattle.rules.specs.Cells.{ProductionAt, Cells, Declared}
 use Rattle.rules.specs.Picks.{Only, Picks}
 use Rattle.rules.specs.Reads.{readFrom, fine, faulted}
-use Rattle.rules.specs.Statements.{OneListed, Listing, NotListed, AllListed, programOf, Monitored}
+use Rattle.rules.specs.Statements.{OneListed, Listing, NotListed, AllListed, Monitored}
 use Rattle.rules.proofs.Stepping.{well, ill, wrong, right, yes, no, faults, past, on-step, is-on, is-off, not-here, by-kind}
 use Rattle.rules.proofs.Picking.{known-name}
 use Rattle.rules.proofs.LetterSteps.{production-of}

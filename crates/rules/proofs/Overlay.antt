@@ -58,7 +58,7 @@ rows-two A A₁ A₂ A′ r n x xs ys e p q s =
 same-letters : {a b c d a′ b′ c′ d′ : List ℕ} → a ≡ a′ → b ≡ b′ → c ≡ c′ → d ≡ d′ → letterLists a b c d ≡ letterLists a′ b′ c′ d′
 same-letters {a} {b} {c} {d} {a′} {b′} {c′} {d′} p q r s = ap₂ (λ (x y : List ℕ). letterLists x y c d) p q ∙ ap₂ (λ (x y : List ℕ). letterLists a′ b′ x y) r s
 
-two-long : (xs : List Link) → length (twoSlots xs) ≡ 2
+pub two-long : (xs : List Link) → length (twoSlots xs) ≡ 2
 two-long [] = refl
 two-long (x ∷ []) = refl
 two-long (y ∷ x ∷ xs) = refl

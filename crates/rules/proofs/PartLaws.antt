@@ -245,7 +245,7 @@ letter-made P c q link room small n l m i f = record {
 
 -- ---- the expression of a production
 
-is-flag : (b : Bool) → eqb (flag b) 1 ≡ b
+pub is-flag : (b : Bool) → eqb (flag b) 1 ≡ b
 is-flag true = refl
 is-flag false = refl
 

@@ -146,8 +146,8 @@ module _ (P : List ℕ) (n row index : ℕ) where
   first-room (c, e, s) = let (a, b) = some-room e in (omega (arith, s .room), omega (arith, s .space))
 
   -- whatever expression stands there is laid
-  abbrev pub Lays : (up : ℕ) → (R R′ : List ℕ) → (L L′ : LetterLists) → (r l : ℕ) → Type 0
-  Lays up R R′ L L′ r l = (c : ℕ) → (e : Exp) → ExpAt P c n row index e → Stored row up index e R R′ L L′ r l
+  abbrev pub Lays : (up : ℕ) → (T T′ : List ℕ) → (L L′ : LetterLists) → (r l : ℕ) → Type 0
+  Lays up T T′ L L′ r l = (c : ℕ) → (e : Exp) → ExpAt P c n row index e → Stored row up index e T T′ L L′ r l
 
 -- ---- a letter
 
@@ -165,12 +165,12 @@ module _ (P : List ℕ) (n row index k : ℕ) (q : k ≡ part0 (at P n)) (z : k 
   pub some-letter : SomeExp P n row index → SomeLetter P n
   some-letter (c, g, s) = let (x, e, t) = letter-at c g s in (c, x, t)
 
-  pub letter-lays : (up : ℕ) (R R′ : List ℕ) (L L′ : LetterLists) → ((c : ℕ) → (x : Letter) → LetterAt P c n x → L′ ≡ withLetters L index (x ∷ []))
-      → R′ ≡ withRows R row (rowCode 0 index 0 up ∷ []) → Lays P n row index up R R′ L L′ (row + 1) (index + 1)
+  pub letter-lays : (up : ℕ) (T T′ : List ℕ) (L L′ : LetterLists) → ((c : ℕ) → (x : Letter) → LetterAt P c n x → L′ ≡ withLetters L index (x ∷ []))
+      → T′ ≡ withRows T row (rowCode 0 index 0 up ∷ []) → Lays P n row index up T T′ L L′ (row + 1) (index + 1)
   unfolding rowCodes letters rows size
-  letter-lays up R R′ L L′ a b c g s =
+  letter-lays up T T′ L L′ a b c g s =
       let (x, e, t) = letter-at c g s in
-      subst (λ (g : Exp). Stored row up index g R R′ L L′ (row + 1) (index + 1)) (sym e)
+      subst (λ (g : Exp). Stored row up index g T T′ L L′ (row + 1) (index + 1)) (sym e)
       record { rows-stored = b; letters-stored = a c x t; next-row = refl; next-letter = refl }
 
 -- ---- an operator's first operand
@@ -194,17 +194,17 @@ module _ (P : List ℕ) (n row index k i : ℕ) (q : k ≡ part0 (at P n)) (b : 
   a-star c (of-star e h p d) z = (e, refl, rw b d)
   a-star c (of-two e f k op o h p j d g) z = absurd (two-kind o .1 (sym h ∙ sym q ∙ z))
 
-  pub star-lays : k ≡ 3 → (up : ℕ) (R R₁ R′ : List ℕ) (L L′ : LetterLists) (r l : ℕ) → Lays P i (row + 1) index row R R₁ L L′ r l
-      → R′ ≡ withRows R₁ row (rowCode 3 (row + 1) 0 up ∷ []) → Lays P n row index up R R′ L L′ r l
+  pub star-lays : k ≡ 3 → (up : ℕ) (T T₁ T′ : List ℕ) (L L′ : LetterLists) (r l : ℕ) → Lays P i (row + 1) index row T T₁ L L′ r l
+      → T′ ≡ withRows T₁ row (rowCode 3 (row + 1) 0 up ∷ []) → Lays P n row index up T T′ L L′ r l
   unfolding rowCodes letters rows size
-  star-lays z up R R₁ R′ L L′ r l a m c g s =
+  star-lays z up T T₁ T′ L L′ r l a m c g s =
       let (e, w, d) = a-star c (form P c n g (s .denotes)) z in
       let x : row + rows (star e) ≤ 1024 = rw w at (s .room) in
       let y : index + size (star e) ≤ 256 = rw w at (s .space) in
       let t = a c e (record { within = s .within; denotes = d; room = omega arith; space = y }) in
-      subst (λ (g : Exp). Stored row up index g R R′ L L′ r l) (sym w)
+      subst (λ (g : Exp). Stored row up index g T T′ L L′ r l) (sym w)
       record {
-        rows-stored = m ∙ ap (λ (A : List ℕ). withRows A row (rowCode 3 (row + 1) 0 up ∷ [])) (t .rows-stored) ∙ rw (add-one row) (row-before R row (rowCodes (suc row) row index e) (rowCode 3 (suc row) 0 up));
+        rows-stored = m ∙ ap (λ (A : List ℕ). withRows A row (rowCode 3 (row + 1) 0 up ∷ [])) (t .rows-stored) ∙ rw (add-one row) (row-before T row (rowCodes (suc row) row index e) (rowCode 3 (suc row) 0 up));
         letters-stored = t .letters-stored;
         next-row = omega (arith, t .next-row);
         next-letter = t .next-letter;
@@ -259,7 +259,7 @@ module _ (P : List ℕ) (n row index k i j : ℕ) (q : k ≡ part0 (at P n)) (b 
     second-at : (next from : ℕ) → next ≡ row + 1 + rows (w .e) → from ≡ index + size (w .e) → ExpAt P c j next from (w .f)
     second-at next from a b = record { within = s .within; denotes = w .second; room = omega (arith, s .room, whole-rows); space = omega (arith, s .space, whole-size) }
 
-  module _ (R R₁ : List ℕ) (L L₁ : LetterLists) (next from : ℕ) (a : Lays P i (row + 1) index row R R₁ L L₁ next from) where
+  module _ (T T₁ : List ℕ) (L L₁ : LetterLists) (next from : ℕ) (a : Lays P i (row + 1) index row T T₁ L L₁ next from) where
     pub second-operand : SomeExp P n row index → Second P n j next from
     second-operand (c, g, s) =
         let w = two c (form P c n g (s .denotes)) in
@@ -269,16 +269,16 @@ module _ (P : List ℕ) (n row index k i j : ℕ) (q : k ≡ part0 (at P n)) (b 
           stands = (c, w .f, second-at c g s w next from (t .next-row) (t .next-letter));
         }
 
-    pub two-lays : (up : ℕ) (R₂ R′ : List ℕ) (L′ : LetterLists) (r l : ℕ) → Lays P j next from row R₁ R₂ L₁ L′ r l
-        → R′ ≡ withRows R₂ row (rowCode k (row + 1) next up ∷ []) → Lays P n row index up R R′ L L′ r l
-    two-lays up R₂ R′ L′ r l d m c g s =
+    pub two-lays : (up : ℕ) (T₂ T′ : List ℕ) (L′ : LetterLists) (r l : ℕ) → Lays P j next from row T₁ T₂ L₁ L′ r l
+        → T′ ≡ withRows T₂ row (rowCode k (row + 1) next up ∷ []) → Lays P n row index up T T′ L L′ r l
+    two-lays up T₂ T′ L′ r l d m c g s =
         let w = two c (form P c n g (s .denotes)) in
         let t = a c (w .e) (first-at c g s w) in
         let u = d c (w .f) (second-at c g s w next from (t .next-row) (t .next-letter)) in
         record {
-          rows-stored = rows-two R R₁ R₂ R′ row next (rowCode k (row + 1) next up) (rowCodes (row + 1) row index (w .e)) (rowCodes next row from (w .f))
+          rows-stored = rows-two T T₁ T₂ T′ row next (rowCode k (row + 1) next up) (rowCodes (row + 1) row index (w .e)) (rowCodes next row from (w .f))
               (omega (arith, t .next-row, codes-long (row + 1) row index (w .e))) (t .rows-stored) (u .rows-stored) m
-              ∙ ap (withRows R row) (whole-codes c g s w up next from (t .next-row) (t .next-letter));
+              ∙ ap (withRows T row) (whole-codes c g s w up next from (t .next-row) (t .next-letter));
           letters-stored = u .letters-stored ∙ ap (λ (A : LetterLists). withLetters A from (letters (w .f))) (t .letters-stored)
               ∙ letters-behind L index (letters (w .e)) from (letters (w .f)) (omega (arith, t .next-letter, letters-long (w .e)))
               ∙ ap (withLetters L index) (sym (ap letters (w .whole) ∙ two-letters (w .e) (w .f) (w .operator)));

@@ -7,7 +7,7 @@ use lib.ListN.{length}
 use Rattle.lexer.specs.Tokens as token
 use Rattle.lexer.specs.Tokens.{Token, Placed, tokenAt}
 use Rattle.meaning.specs.Answers.{refused, byte}
-use Rattle.meaning.specs.Reading.{Names, noNames, Expect, statement, inputName, storeName, defineName, monitorName, go, notHere, begin, ofWord, step}
+use Rattle.meaning.specs.Reading.{Names, noNames, statement, monitorName, go, notHere, behindWord, begin, step}
 use Rattle.rules.specs.declared.declarations.Scope.{Scope}
 use Rattle.rules.specs.declared.declarations.Declared.{Declared}
 use Rattle.rules.specs.declared.tokens.Seen.{Seen}
@@ -21,13 +21,6 @@ use Rattle.rules.proofs.TaskLaws.{room-on, room-after}
 use Rattle.rules.proofs.Declaring.{answered}
 
 -- ---- one statement
-
--- what is expected behind a word
-abbrev pub behindWord : token.Word → Expect
-behindWord token.input = inputName
-behindWord token.internal = storeName
-behindWord token.define = defineName
-behindWord token.monitor = monitorName []
 
 -- a token that begins no statement
 none-kind : (ns : Names) (u : Placed) (kind : ℕ) (s : List ℕ) (v : ℕ) → (kind ≡ 18 → ⊥) → (20 ≤ kind → kind < 24 → ⊥) → begin ns u (tokenOf kind s v) ≡ notHere u
@@ -45,13 +38,7 @@ module _ (text : List ℕ) (pos : ℕ) (t : Seen) (sees : Sees text pos t) where
 
   word-on : (w : token.Word) → t .kind ≡ wordKind w → (ns : Names) → readFrom text pos ns statement ≡ readFrom text (t .after) ns (behindWord w)
   unfolding step
-  word-on w q ns = on-step text pos t sees ns statement (go ns (behindWord w)) (ap (step ns statement) (word-is w q) ∙ of w)
-    where
-      of : (w : token.Word) → ofWord ns w ≡ go ns (behindWord w)
-      of token.input = refl
-      of token.internal = refl
-      of token.define = refl
-      of token.monitor = refl
+  word-on w q ns = on-step text pos t sees ns statement (go ns (behindWord w)) (ap (step ns statement) (word-is w q))
 
   word-past : (w : token.Word) → t .kind ≡ wordKind w → (pos < t .after) × (t .after ≤ length text)
   word-past w q = past text pos t sees (few w q)

@@ -20,6 +20,7 @@ use Rattle.rules.specs.Reads.{readFrom, fine, faulted, Past}
 use Rattle.rules.specs.Conditions.{Extends}
 use Rattle.rules.specs.Parts.{PartIs, OptionIs, present, StarMade}
 use Rattle.rules.specs.Expressions.{LevelIs, pending, Joined, Closes, Ends, goes, ends, stops, Turned, Behind, Starring, Starred, inParens, around, ClosedBy}
+use Rattle.lexer.proofs.Bools.{and-false}
 use Rattle.rules.proofs.Stepping.{yes, no, faults, past, on-step, is-on, is-off, not-here, no-sign-at}
 use Rattle.rules.proofs.Put.{extends-refl}
 use Rattle.rules.proofs.PartLaws.{present-none, present-one}
@@ -58,10 +59,6 @@ module _ (text P : List ℕ) (pos c : ℕ) (t : Seen) (sees : Sees text pos t) (
 
 -- ---- behind an operand
 
-never : (b : Bool) → (b && false) ≡ false
-never true = refl
-never false = refl
-
 module _ (text : List ℕ) (pos : ℕ) (t : Seen) (sees : Sees text pos t) (ns : Names) (o : Open) (e : Exp) (b : Bool) where
   -- what is left of the step where there is no `*`, no `@`, no `,` and no `||` to take
   rest : (is 3 (seen text t) && not b) ≡ false → (is 2 (seen text t) && isNone (o .level .left)) ≡ false → (t .kind ≡ 1 → ⊥) → (t .kind ≡ 15 → ⊥)
@@ -97,7 +94,7 @@ module _ (text P : List ℕ) (pos c : ℕ) (t : Seen) (sees : Sees text pos t) (
       }
     where
       once : (b : Bool) → (b ≡ false → is 3 (tokenAt text pos) ≡ false) → (is 3 (seen text t) && not b) ≡ false
-      once true s = never (is 3 (seen text t))
+      once true s = and-false (is 3 (seen text t))
       once false s = ap (λ (x : Bool). x && true) (ap (is 3) (sees .token) ∙ s refl)
 
   -- a second `@`
@@ -114,7 +111,7 @@ module _ (text P : List ℕ) (pos c : ℕ) (t : Seen) (sees : Sees text pos t) (
     where
       taken : (x : Option Exp) → OptionIs P c (l .left) x → (is 2 (seen text t) && isNone x) ≡ false
       taken none k = absurd (n k)
-      taken (some d) k = never (is 2 (seen text t))
+      taken (some d) k = and-false (is 2 (seen text t))
 
   -- an operator: the level that it leads to
   module _ (r : Turn) (m : r .more ≡ true) (f : r .parsed .fault ≡ 0) (a : r .parsed .at ≡ t .after) where
@@ -206,7 +203,7 @@ module _ (text P : List ℕ) (pos c : ℕ) (t : Seen) (sees : Sees text pos t) (
             λ ns o.
                 on-step text pos t sees ns (operandMore (onLevel o L) e b) _ (rest text pos t sees ns (onLevel o L) e b (starless text pos t sees n3 b) (atless text pos t sees n2 (L .left)) n1 n15 ∙ same ns o L e (o .outer))
                 ∙ sym (on-step text pos t sees ns (operandMore (onLevel o newLevel) (whole L e) true) _
-                (rest text pos t sees ns (onLevel o newLevel) (whole L e) true (never (is 3 (seen text t))) (atless text pos t sees n2 none) n1 n15)),
+                (rest text pos t sees ns (onLevel o newLevel) (whole L e) true (and-false (is 3 (seen text t))) (atless text pos t sees n2 none) n1 n15)),
           );
         }));
       }
@@ -226,7 +223,7 @@ module _ (text : List ℕ) (p : Parsed) (t : Seen) (sees : Sees text (p .at) t) 
       → step ns (operandMore (inParens n l ls) e true) (seen text t) ≡ choose (is 7 (seen text t)) (go ns (operandMore (around n l ls) e false)) (choose (is 0 (seen text t)) (notHere (seen text t)) (notHere (seen text t)))
   unfolding step behindOperand
   inner c ns n l ls e =
-      no _ _ _ (never (is 3 (seen text t))) ∙ no _ _ _ (ap (λ (y : Bool). y && true) (ap (is 2) (sees .token) ∙ c .pipe))
+      no _ _ _ (and-false (is 3 (seen text t))) ∙ no _ _ _ (ap (λ (y : Bool). y && true) (ap (is 2) (sees .token) ∙ c .pipe))
       ∙ no _ _ _ (ap (is 1) (sees .token) ∙ c .comma) ∙ no _ _ _ (ap (is 15) (sees .token) ∙ c .bars)
 
   pub closed-not : (t .kind ≡ 7 → ⊥) → (r : Parsed) → r .fault ≡ t .fault → r .at ≡ t .place → ClosedBy text p r

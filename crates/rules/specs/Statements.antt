@@ -6,7 +6,7 @@ use lib.ListN.{length, take}
 use Rattle.lexer.specs.Tokens.{tokens}
 use Rattle.meaning.specs.Expression.{Exp}
 use Rattle.meaning.specs.Answers.{Answer, value, refused, byte}
-use Rattle.meaning.specs.Reading.{Names, noNames, Expect, statement, monitorName, monitorMore, textEnd, Program, readOn}
+use Rattle.meaning.specs.Reading.{Names, noNames, Expect, statement, monitorName, monitorMore, textEnd, Program, programOf, readOn}
 use Rattle.rules.specs.declared.declarations.Declared.{Declared}
 use Rattle.rules.specs.Cells.{Cells}
 use Rattle.rules.specs.Reads.{readFrom, Unless, Past}
@@ -44,9 +44,6 @@ unfoldable pub AllListed : (text P : List ℕ) → (h pos f next : ℕ) → (M :
 AllListed text P h pos f next M n = Unless f (Listing text P h pos M n (λ ns ms. readFrom text next ns (textEnd ms))) (NotListed text P h pos f next)
 
 -- the text has ended
-abbrev pub programOf : Names → List Exp → Program
-programOf ns ms = record { wires = ns .wires; initial = ns .initial; monitors = ms }
-
 unfoldable pub Monitored : (text P : List ℕ) → (h pos f next : ℕ) → (M : List ℕ) → (n : ℕ) → Type 0
 Monitored text P h pos f next M n = Unless f (Listing text P h pos M n (λ ns ms. value (programOf ns ms))) (NotListed text P h pos f next)
 

@@ -7,7 +7,6 @@ use words::part0;
 use words::part1;
 use words::part2;
 use words::part3;
-ghost use mathlib.Core.Path.{_≡_};
 ghost use Prim.Native.Nat.{ℕ, _-_, _≤_};
 ghost use lib.ListN.{length, take, drop};
 ghost use Rattle.rules.specs.Cells.{Declared, Finds};
