@@ -3,6 +3,7 @@
 use Prim.Native.Nat.{ℕ, _-_}
 use mathlib.Core.List.{List}
 use lib.ListN.{take, drop}
+use Rattle.refusals.specs.Numbers as refusal
 use Rattle.lexer.specs.Tokens as tokens
 use Rattle.lexer.specs.declared.Word.{Word}
 use Rattle.lexer.specs.declared.Word.the-variants.{Input, Internal, Define, Monitor}
@@ -23,7 +24,7 @@ kindShown s (kind.Word w) = tokens.word (wordShown w)
 kindShown s (kind.Number n) = tokens.number n
 kindShown s (kind.Sign n) = tokens.sign n
 kindShown s kind.End = tokens.end
-kindShown s kind.Knot = tokens.refused 2
+kindShown s kind.Knot = tokens.refused refusal.knot
 
 -- of a token of the text s
 abbrev pub shown : List ℕ → Token → tokens.Placed

@@ -6,6 +6,7 @@ use mathlib.Core.List.{List, [], _∷_}
 use mathlib.Core.Option.{Option, none, some}
 use lib.Dec.{leb, ltb}
 use lib.ListN.{length, take, drop}
+use Rattle.refusals.specs.Numbers as refusal
 use Rattle.lexer.specs.Signs.{signs}
 use Rattle.lexer.specs.Bytes.{Entry, _means_, lookup, run, isWhite, isDigit, isLetter, isNameByte}
 
@@ -41,7 +42,7 @@ untaken p t = record { token = t; place = p; after = p }
 
 -- 01's number 2, knot: "no token here, or a name or number too long". The place is that of its first byte.
 abbrev pub knot : ℕ → Placed
-knot p = untaken p (refused 2)
+knot p = untaken p (refused refusal.knot)
 
 -- a name, unless it is a reserved word
 abbrev pub orName : List ℕ → Option Word → Token

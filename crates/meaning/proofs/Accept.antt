@@ -7,15 +7,14 @@ use native.Mathlib.Decide.{ℕ-discrete}
 use lib.Dec.{T, not-T}
 use Rattle.meaning.specs.Lists.{_∈_}
 use Rattle.meaning.specs.Expression.{Letter, Exp, letter, seq, alt, star, pipe, letters, renumbered, Ordered}
-use Rattle.meaning.specs.Shape.{nullable, last, follow, threads, unsatisfiable, parts, head, nullables, openEnds, ambiguous, Shape, accepted, firstOf, shape, AllRead}
-use Rattle.meaning.specs.Fit.{start, verdicts}
-use Rattle.meaning.specs.Positions.{answers, opened}
+use Rattle.meaning.specs.Shape.{nullable, last, follow, threads, parts, head}
+use Rattle.meaning.specs.ShapeTests.{unsatisfiable, nullables, openEnds, ambiguous, Shape, accepted, firstOf, shape, AllRead}
 use Rattle.meaning.proofs.ListLaws.{here, there, no-∈, ∈-left, ∈-right, map-∈, none-in, clash}
 use Rattle.meaning.proofs.Numbering.{numbered, renumbered-ordered}
 use Rattle.meaning.proofs.Step.{Solid}
 use Rattle.meaning.proofs.OneWay.{Closed}
 use Rattle.meaning.proofs.Monitor.{Accepted, Unambiguous}
-use Rattle.meaning.proofs.Watch.{AllAccepted, right-answers}
+use Rattle.meaning.proofs.Watch.{AllAccepted}
 use Rattle.meaning.proofs.Rules.{nullable-at, open-end-at, ambiguous-by}
 
 a-letter : (e : Exp) → (l : Letter) × (l ∈ letters e)
@@ -106,7 +105,3 @@ accept-all [] h = tt
 accept-all (m ∷ ms) h =
     let (o, p) = h m (here refl) in
     (accept m o p, accept-all ms (λ n i. h n (there i)))
-
--- The watch over monitors that were not turned away answers each list of words with its verdicts.
-pub watch-right : (ms : List Exp) → AllRead ms → (initial ws : List ℕ) → answers ms (opened ms initial) ws ≡ verdicts ms (start initial) ws
-watch-right ms h initial ws = right-answers ms (accept-all ms h) initial ws

@@ -8,9 +8,11 @@ use lib.ListN.{length}
 use borrow.Author.Tests.{le-ltb}
 use Rattle.lexer.specs.Tokens.{Placed, tokens}
 use Rattle.meaning.specs.Expression.{Literal}
-use Rattle.meaning.specs.Answers.{refused, byte, oversize}
+use Rattle.meaning.specs.Answers.{refused, byte}
+use Rattle.refusals.specs.Numbers.{oversize}
 use Rattle.meaning.specs.Reading
-use Rattle.meaning.specs.Reading.{Names, noNames, Context, Expect, statement, wireMore, Step, go, finished, fault, step, readOn, read}
+use Rattle.meaning.specs.Reading.{Context, Expect, statement, wireMore, Step, go, finished, fault, step, readOn, read}
+use Rattle.meaning.specs.Names.{Names, noNames}
 use Rattle.meaning.proofs.ListLaws.{clash}
 use Rattle.meaning.proofs.Outcomes.{Outcome, refusal, late, ended, goes, outcome}
 

@@ -12,10 +12,10 @@ use lib.Seq.{take-suc, take-all}
 use Rattle.lexer.proofs.Bools.{or-true, or-false}
 use Rattle.meaning.specs.Lists.{any, count, only}
 use Rattle.meaning.specs.Expression.{Exp}
-use Rattle.meaning.specs.Shape.{AllRead}
+use Rattle.meaning.specs.ShapeTests.{AllRead}
 use Rattle.meaning.specs.Fit.{Verdict, ok as clean, bad as broken, History, start, onward, history, judged}
-use Rattle.meaning.specs.Positions.{opened, answer, moved}
-use Rattle.meaning.specs.Calls.{Reply, ok, bad, refused, replyOf, mostTicks, isFull, isStray, State, opening, reply, after, repliesFrom, replies, machineReplies, isOk, isBad, isRefused, judgedWords, Rightly, AllRightly}
+use Rattle.meaning.specs.Positions.{opened, answer, moved, machineReplies}
+use Rattle.meaning.specs.Calls.{Reply, ok, bad, refused, replyOf, mostTicks, isFull, isStray, State, opening, reply, after, repliesFrom, replies, isOk, isBad, isRefused, judgedWords, Rightly, AllRightly}
 use Rattle.meaning.proofs.ListLaws.{carry-append, clash}
 use Rattle.meaning.proofs.Watch.{AllAccepted, Tracks, opened-tracks, same-verdict, same-move}
 use Rattle.meaning.proofs.Accept.{accept-all}
@@ -24,23 +24,23 @@ use Rattle.meaning.proofs.Accept.{accept-all}
 
 -- stopped, full, stray, and the reply if it is none of them
 abbrev chosen : (a b c : Bool) → Reply → Reply
-chosen a b c r = cond a (refused 16) (cond b (refused 17) (cond c (refused 15) r))
+chosen a b c r = cond a (refused 16 0) (cond b (refused 17 0) (cond c (refused 15 0) r))
 
-chosen-16 : (a b c : Bool) (v : Verdict) → chosen a b c (replyOf v) ≡ refused 16 ↔ T a
+chosen-16 : (a b c : Bool) (v : Verdict) → chosen a b c (replyOf v) ≡ refused 16 0 ↔ T a
 chosen-16 true b c v = (λ p. tt, λ t. refl)
 chosen-16 false true c v = (λ p. clash (cc), λ t. absurd t)
 chosen-16 false false true v = (λ p. clash (cc), λ t. absurd t)
 chosen-16 false false false clean = (λ p. clash (cc), λ t. absurd t)
 chosen-16 false false false (broken m) = (λ p. clash (cc), λ t. absurd t)
 
-chosen-17 : (a b c : Bool) (v : Verdict) → chosen a b c (replyOf v) ≡ refused 17 ↔ (T (not a) × T b)
+chosen-17 : (a b c : Bool) (v : Verdict) → chosen a b c (replyOf v) ≡ refused 17 0 ↔ (T (not a) × T b)
 chosen-17 true b c v = (λ p. clash (cc), λ (t, u). absurd t)
 chosen-17 false true c v = (λ p. (tt, tt), λ t. refl)
 chosen-17 false false true v = (λ p. clash (cc), λ (t, u). absurd u)
 chosen-17 false false false clean = (λ p. clash (cc), λ (t, u). absurd u)
 chosen-17 false false false (broken m) = (λ p. clash (cc), λ (t, u). absurd u)
 
-chosen-15 : (a b c : Bool) (v : Verdict) → chosen a b c (replyOf v) ≡ refused 15 ↔ (T (not a) × T (not b) × T c)
+chosen-15 : (a b c : Bool) (v : Verdict) → chosen a b c (replyOf v) ≡ refused 15 0 ↔ (T (not a) × T (not b) × T c)
 chosen-15 true b c v = (λ p. clash (cc), λ (t, u, x). absurd t)
 chosen-15 false true c v = (λ p. clash (cc), λ (t, u, x). absurd u)
 chosen-15 false false true v = (λ p. (tt, tt, tt), λ t. refl)
@@ -65,10 +65,10 @@ chosen-ok false false false (broken m) p = clash (cc)
 any-snoc : (rs : List Reply) (r : Reply) → any isBad (rs ++ r ∷ []) ≡ any isBad rs || isBad r
 any-snoc [] ok = refl
 any-snoc [] (bad m) = refl
-any-snoc [] (refused n) = refl
+any-snoc [] (refused n q) = refl
 any-snoc (ok ∷ rs) r = any-snoc rs r
 any-snoc (bad m ∷ rs) r = refl
-any-snoc (refused n ∷ rs) r = any-snoc rs r
+any-snoc (refused n q ∷ rs) r = any-snoc rs r
 
 count-snoc : (rs : List Reply) (r : Reply) → count isOk (rs ++ r ∷ []) ≡ count isOk rs + cond (isOk r) 1 0
 count-snoc [] r = omega arith
@@ -163,19 +163,19 @@ module _ (ms : List Exp) (initial : List ℕ) (wires : ℕ) where
           inner-is = λ x. absurd (T-not (any isBad (rs ++ bad m ∷ [])) x (subst T (sym (any-snoc rs (bad m) ∙ or-true (any isBad rs))) tt));
           as-long = length-snoc ws rs w (bad m) (k .as-long);
         }
-    keep (refused n) p =
+    keep (refused n q) p =
         record {
           stopped-is = k .stopped-is ∙ same;
-          oks-is = omega (arith, k .oks-is, count-snoc rs (refused n));
+          oks-is = omega (arith, k .oks-is, count-snoc rs (refused n q));
           oks-most = k .oks-most;
           inner-is = λ x.
               k .inner-is (subst (λ b. T (not b)) (sym same) x)
-              ∙ ap (history ms initial) (sym (words-snoc ws rs w (refused n) (k .as-long) ∙ append-nil (judgedWords ws rs)));
-          as-long = length-snoc ws rs w (refused n) (k .as-long);
+              ∙ ap (history ms initial) (sym (words-snoc ws rs w (refused n q) (k .as-long) ∙ append-nil (judgedWords ws rs)));
+          as-long = length-snoc ws rs w (refused n q) (k .as-long);
         }
       where
-        same : any isBad rs ≡ any isBad (rs ++ refused n ∷ [])
-        same = sym (any-snoc rs (refused n) ∙ or-false (any isBad rs))
+        same : any isBad rs ≡ any isBad (rs ++ refused n q ∷ [])
+        same = sym (any-snoc rs (refused n q) ∙ or-false (any isBad rs))
 
   -- the replies to more calls
   rightly-from : (vs : List ℕ) (s : State History) (ws : List ℕ) (rs : List Reply) → Kept ws rs s → (n : ℕ) → n < length vs
@@ -271,7 +271,7 @@ module _ {S R : Type 0} (judge : S → ℕ → Verdict) (move : S → ℕ → S)
           → (x : Reply) → there ≡ x → repliesFrom judge move wires (after move here w x) ws ≡ repliesFrom judge′ move′ wires (after move′ other w x) ws
       rest ih ok p = ih (move s w) (move′ r w) (suc n) b (onwards s r l w (chosen-ok b (isFull n) (isStray wires w) (judge′ r w) p .2))
       rest ih (bad m) p = ih s r n true l
-      rest ih (refused k) p = ih s r n b l
+      rest ih (refused k q) p = ih s r n b l
 
 -- The machine over monitors that were not turned away replies to each list of calls as their meaning does.
 pub calls-right : (ms : List Exp) → AllRead ms → (initial : List ℕ) (wires : ℕ) (ws : List ℕ) → machineReplies ms initial wires ws ≡ replies ms initial wires ws

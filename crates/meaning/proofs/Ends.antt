@@ -9,7 +9,8 @@ use native.Mathlib.Omega.{arith}
 use lib.Dec.{eqb, eqb→eq, eqb-refl}
 use Rattle.meaning.specs.Fit.{Tick}
 use Rattle.meaning.specs.Positions.{joined, Entered, passed, thenEnter, orEnter, orPass, goesBy}
-use Rattle.meaning.specs.Table.{Under, Kind, is-letter, is-seq, is-alt, is-star, is-pipe, Table, enterBy, leaveBy, enterRow, askRow, leaveRow}
+use Rattle.meaning.specs.Table.{Under, Kind, is-letter, is-seq, is-alt, is-star, is-pipe, Table}
+use Rattle.meaning.specs.RowWalk.{enterBy, leaveBy, enterRow, askRow, leaveRow}
 use Rattle.meaning.proofs.ListLaws.{is-true, is-false}
 use Rattle.meaning.proofs.Entering.{goes-by-only}
 

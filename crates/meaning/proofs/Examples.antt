@@ -5,12 +5,14 @@ use mathlib.Core.List.{List, [], _∷_, _++_}
 use Prim.Native.Nat.{ℕ}
 use Rattle.lexer.specs.Bytes.{isWhite, isDigit, isLetter, run, same, lookup}
 use Rattle.lexer.specs.Tokens.{nameToken, valueFrom, numberToken, signToken, firstToken, nextToken, tokenAt, tokensFrom, tokensAt}
-use Rattle.meaning.specs.Expression.{Exp, letters, size, rows, renumbered}
+use Rattle.meaning.specs.Expression.{Exp, letters, size, rows, renumbered, storeTests}
 use Rattle.meaning.specs.Fit.{fits, meets, merge, rounds, runs, writeMet, onward, verdict}
-use Rattle.meaning.specs.Shape.{nullable, first, last, follow, threads, agree, together, unsatisfiable, parts, nullables, openEnds, ambiguous, shape, meetsWires}
-use Rattle.meaning.specs.Reading.{choose, onName, onNumber, ifName, ifNumber, unless, byKind, known, newName, notHere, atToken, declare, storeTests, literalName, behindOperand, behindLiteral, step, readOn, read}
+use Rattle.meaning.specs.Shape.{nullable, first, last, follow, threads, parts, meetsWires}
+use Rattle.meaning.specs.ShapeTests.{agree, together, unsatisfiable, nullables, openEnds, ambiguous, shape}
+use Rattle.meaning.specs.Reading.{choose, onName, onNumber, ifName, ifNumber, unless, byKind, known, newName, notHere, atToken, literalName, behindOperand, behindLiteral, step, readOn, read}
+use Rattle.meaning.specs.Names.{declare}
 use Rattle.meaning.specs.Answers.{value}
-use Rattle.meaning.specs.Opening.{Opened, asOpened, tooLong, misshapen, openProgram, openText}
+use Rattle.meaning.specs.Opening.{Opened, counts, countsOf, asOpened, tooLong, misshapen, openProgram, openText}
 use Rattle.meaning.specs.Calls.{reply}
 use Rattle.trace.specs.Record.{digit, number, count, picked, recordOf, differs, changes, written, newByte, merged, idle, readRecord}
 use Rattle.trace.specs.Whole.{writeAll, writeTrace}
@@ -25,7 +27,7 @@ AllHold [] = Unit {0}
 AllHold (x ∷ xs) = Holds x × AllHold xs
 
 pub examples-hold : AllHold examples
-unfolding choose onName onNumber ifName ifNumber unless byKind known newName notHere atToken isWhite isDigit isLetter run same lookup nameToken valueFrom numberToken signToken firstToken nextToken tokenAt tokensFrom tokensAt letters size rows renumbered meets merge rounds runs writeMet onward verdict nullable first last follow threads agree together unsatisfiable parts nullables openEnds ambiguous shape meetsWires declare storeTests literalName behindOperand behindLiteral step readOn read asOpened tooLong misshapen openProgram openText reply digit number count picked recordOf differs changes written newByte merged idle readRecord writeAll writeTrace sheet tickLines cleanLine countsLine refusalLine line decimal digitsIn hexadecimal
+unfolding choose onName onNumber ifName ifNumber unless byKind known newName notHere atToken isWhite isDigit isLetter run same lookup nameToken valueFrom numberToken signToken firstToken nextToken tokenAt tokensFrom tokensAt letters size rows renumbered meets merge rounds runs writeMet onward verdict nullable first last follow threads agree together unsatisfiable parts nullables openEnds ambiguous shape meetsWires declare storeTests literalName behindOperand behindLiteral step readOn read asOpened tooLong misshapen openProgram openText countsOf reply digit number count picked recordOf differs changes written newByte merged idle readRecord writeAll writeTrace sheet tickLines cleanLine countsLine refusalLine line decimal digitsIn hexadecimal
 examples-hold = ((refl, (refl, (refl, (refl, (refl, (refl, (refl, (refl, (refl, (refl, (refl, (refl, (refl, (refl, (refl, (refl, tt)))))))))))))))))
 
 -- the sample's trace is the one that 01 prints
@@ -39,6 +41,6 @@ unfolding runs rounds
 empty-fits m = refl
 
 -- "its sheet ends `clean 0`"
-pub nothing-yet : (text : List ℕ) (o : Opened) → openText text ≡ value o → sheet text [] ≡ countsLine o ++ cleanLine 0
-unfolding sheet tickLines
+pub nothing-yet : (text : List ℕ) (o : Opened) → openText text ≡ value o → sheet text [] ≡ countsLine (counts o) ++ cleanLine 0
+unfolding sheet tickLines countsOf
 nothing-yet text o e = rw e

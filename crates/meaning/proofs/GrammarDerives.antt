@@ -9,11 +9,12 @@ use lib.ListN.{length, length-append}
 use borrow.Author.Tests.{ltb-false}
 use Rattle.lexer.specs.Tokens as token
 use Rattle.lexer.specs.Tokens.{Token, Placed}
-use Rattle.meaning.specs.Expression.{Literal, wire, wire-store, store, Write, from-wire, from-number, Exp, seq, alt, pipe}
+use Rattle.meaning.specs.Names.{newInput, newProduction, anInput, aStore, aProduction, Names, noNames, declare, Program, programOf}
+use Rattle.meaning.specs.Expression.{Literal, wire, wire-store, store, Write, from-wire, from-number, Exp, seq, alt, pipe, storeTests}
 use Rattle.meaning.specs.Answers.{Answer, value}
 use Rattle.lexer.specs.Signs
 use Rattle.meaning.specs.Reading
-use Rattle.meaning.specs.Reading.{anInput, aStore, aProduction, Names, noNames, declare, Level, newLevel, Open, Context, inDefine, inLetter, Expect, statement, sign, nought, closing, inputName, inputMore, inputHigh, storeName, storeMore, storeHigh, storeFirst, defineName, operand, literal, negated, wireMore, bitIndex, wireEquals, storeEquals, literalMore, writeStore, writeValue, writeMore, operandMore, monitorName, monitorMore, textEnd, Program, Step, andThen, readOn, storeTests, tooMany, join, whole, behindWord, programOf}
+use Rattle.meaning.specs.Reading.{Level, newLevel, Open, Context, inDefine, inLetter, Expect, statement, sign, nought, closing, inputName, inputMore, inputHigh, storeName, storeMore, storeHigh, storeFirst, defineName, operand, literal, negated, wireMore, bitIndex, wireEquals, storeEquals, literalMore, writeStore, writeValue, writeMore, operandMore, monitorName, monitorMore, textEnd, Step, andThen, readOn, tooMany, join, whole, behindWord}
 use Rattle.meaning.specs.Grammar
 use Rattle.meaning.specs.Grammar.{Stands, Free, IsBit, IsLiteral, IsLiterals, IsWrite, IsWrites, IsAtom, IsStarred, IsPiped, IsSequence, IsAlternative, IsWidth, IsMonitors, IsText, plainTokens}
 use Rattle.meaning.proofs.ListLaws.{clash}
@@ -199,7 +200,7 @@ module _ (T : List Token) where
 
     semicolon : (s : List ℕ) (l : Level) (e : Exp) (b : Bool)
         → Derived ns (operandMore (record { name = s; level = l; outer = [] }) e b) (token.sign Signs.semicolon ∷ us)
-        → From (declare (Reading.newProduction s (whole l e)) ns) us
+        → From (declare (newProduction s (whole l e)) ns) us
     semicolon s l e b (ts, (v, (free, from)), atom, x) = λ p r. from p (Grammar.declares (Grammar.a-production free (whole-at v x)) r)
 
     -- what is expected where an operand stands under these levels
@@ -241,7 +242,7 @@ module _ (T : List Token) where
     unfolding storeTests
     number-derived zero-read d = d us refl
     number-derived (input-width {h} {s} k l) (free, from) =
-        zero-ends (closing (Reading.newInput s (suc h))) (λ vs z ws y p r.
+        zero-ends (closing (newInput s (suc h))) (λ vs z ws y p r.
         from p (Grammar.declares (Grammar.an-input free (rw (z, y) (Grammar.field-of k)) l) r))
     number-derived (store-width {h} {s} l) (free, k, from) =
         zero-ends (sign Signs.equals (storeFirst s (suc h))) (λ vs z ws y.

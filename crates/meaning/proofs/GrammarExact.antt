@@ -9,8 +9,10 @@ use lib.ListN.{length}
 use borrow.Author.Tests.{ltb-false, le-ltb}
 use Rattle.lexer.specs.Tokens as token
 use Rattle.lexer.specs.Tokens.{goesOn, tokenAt, tokensFrom, tokensAt, tokens}
-use Rattle.meaning.specs.Answers.{value, refused, byte, overlong}
-use Rattle.meaning.specs.Reading.{noNames, statement, Program, readOn, read}
+use Rattle.meaning.specs.Answers.{value, refused, byte}
+use Rattle.refusals.specs.Numbers.{overlong}
+use Rattle.meaning.specs.Reading.{statement, readOn, read}
+use Rattle.meaning.specs.Names.{noNames, Program}
 use Rattle.meaning.specs.Grammar.{IsProgram}
 use Rattle.meaning.proofs.ListLaws.{clash}
 use Rattle.meaning.proofs.GrammarReads.{derived-read}

@@ -10,11 +10,13 @@ use borrow.Author.Tests.{eq-eqb, le-ltb, lt-leb}
 use Rattle.lexer.specs.Bytes.{lookup}
 use Rattle.lexer.specs.Tokens as token
 use Rattle.lexer.specs.Tokens.{Token, Placed}
-use Rattle.meaning.specs.Expression.{Literal, wire, wire-store, store, Write, Exp, seq, alt, pipe}
-use Rattle.meaning.specs.Answers.{Answer, value, unknown}
+use Rattle.meaning.specs.Names.{newInput, newStore, Meaning, anInput, aStore, aDefine, aProduction, Names, Declaration, declare, Program}
+use Rattle.meaning.specs.Expression.{Literal, wire, wire-store, store, Write, Exp, seq, alt, pipe, storeTests, aLetter}
+use Rattle.meaning.specs.Answers.{Answer, value}
+use Rattle.refusals.specs.Numbers.{unknown}
 use Rattle.lexer.specs.Signs
 use Rattle.meaning.specs.Reading
-use Rattle.meaning.specs.Reading.{Meaning, anInput, aStore, aDefine, aProduction, Names, Declaration, declare, Level, Open, Context, inDefine, inLetter, Expect, statement, sign, nought, closing, inputName, inputMore, inputHigh, storeName, storeMore, storeHigh, storeFirst, defineName, operand, literal, negated, wireMore, bitIndex, wireEquals, storeEquals, literalMore, writeStore, writeValue, writeMore, operandMore, monitorName, monitorMore, textEnd, Program, Step, go, fault, choose, atToken, notHere, unless, ifName, ifNumber, onName, onNumber, byKind, known, newName, step, readOn, behindOperand, behindLiteral, literalName, storeTests, tooMany, join, aLetter}
+use Rattle.meaning.specs.Reading.{Level, Open, Context, inDefine, inLetter, Expect, statement, sign, nought, closing, inputName, inputMore, inputHigh, storeName, storeMore, storeHigh, storeFirst, defineName, operand, literal, negated, wireMore, bitIndex, wireEquals, storeEquals, literalMore, writeStore, writeValue, writeMore, operandMore, monitorName, monitorMore, textEnd, Step, go, fault, choose, atToken, notHere, unless, ifName, ifNumber, onName, onNumber, byKind, known, newName, step, readOn, behindOperand, behindLiteral, literalName, tooMany, join}
 use Rattle.meaning.specs.Grammar
 use Rattle.meaning.specs.Grammar.{Stands, IsBit, IsLiteral, IsLiterals, IsWrite, IsWrites, IsLetter, IsAtom, IsStarred, IsPiped, IsSequence, IsAlternative, IsWidth, IsDeclaration, IsMonitors, IsText, plainTokens}
 use Rattle.meaning.proofs.ListLaws.{clash}
@@ -322,12 +324,12 @@ module _ {p : Program} {ns : Names} where
   to-zero-reads x y r f = then x (signed (then (nought (sign Signs.rightBracket y)) (signed r) (λ a b. refl))) f
 
   input-reads : (s : List ℕ) {w : ℕ} {ts us : List Token} → IsWidth ts (token.sign Signs.semicolon ∷ us) w → ns .wires + w ≤ 64
-      → Reads p (declare (Reading.newInput s w) ns) statement us → Reads p ns (inputMore s) ts
+      → Reads p (declare (newInput s w) ns) statement us → Reads p ns (inputMore s) ts
   unfolding step choose onNumber ifNumber unless
   input-reads s Grammar.no-field h r = closes _ (inputMore s) r (λ a b. refl)
   input-reads s (Grammar.field-of {h = n} k) h r =
       then (inputMore s)
-      (to-zero-reads (inputHigh s) (closing (Reading.newInput s (suc n))) (closes _ (closing (Reading.newInput s (suc n))) r (λ a b. refl))
+      (to-zero-reads (inputHigh s) (closing (newInput s (suc n))) (closes _ (closing (newInput s (suc n))) r (λ a b. refl))
       (λ a b. rw (le-ltb 63 n k, le-ltb 64 (ns .wires + suc n) h)))
       (λ a b. refl)
 
@@ -352,7 +354,7 @@ module _ {p : Program} {ns : Names} where
       then statement
       (then storeName
       (internal-reads s w
-      (then (storeFirst s width) (closes _ (closing (Reading.newStore s width v)) r (λ a b. refl)) (λ a b. rw (lt-leb (2 ^ width) v l))))
+      (then (storeFirst s width) (closes _ (closing (newStore s width v)) r (λ a b. refl)) (λ a b. rw (lt-leb (2 ^ width) v l))))
       (λ a b. rw (e, lt-leb 16 (length (ns .initial)) k, lt-leb 128 (length (ns .declared)) h)))
       (λ a b. refl)
   declaration-reads (Grammar.a-define {s} {ls} (e, h) l) r =

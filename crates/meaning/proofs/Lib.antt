@@ -31,3 +31,4 @@ pub mod GrammarDerives
 pub mod GrammarExact
 pub mod Openings
 pub mod Examples
+pub mod Exactly

@@ -14,7 +14,8 @@ use lib.Pow.{pow-pos, pow-mono, pow-add, shr-shr, shl-shr, shl-lt, ones-split, o
 use borrow.Author.Tests.{le-leb, lt-leb, lt-ltb, le-ltb}
 use Rattle.meaning.specs.Lists.{_∈_, any, all}
 use Rattle.meaning.specs.Expression.{Literal, wire, wire-store, store, field}
-use Rattle.meaning.specs.Shape.{bit, asks, agree, wireHolds, Sized, AllSized}
+use Rattle.meaning.specs.Shape.{wireHolds}
+use Rattle.meaning.specs.ShapeTests.{bit, asks, agree, Sized, AllSized}
 use Rattle.meaning.proofs.ListLaws.{here, there, cons-∈, no-∈, append-∈, ∈-left, ∈-right, and-T, T-and, all-at, all-from, any-from, any-to, same-truth, clash}
 use Rattle.meaning.proofs.Bits.{agree-if, all-append, met-if, bit-field, same-bits, asked-bit, digit-is, asks-own, in-below}
 use Rattle.meaning.specs.Masks.{lookOf, wantOf, look, want, passes, compatible}

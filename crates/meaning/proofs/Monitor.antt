@@ -9,7 +9,8 @@ use lib.Dec.{T, eqb}
 use lib.ListN.{length, getD}
 use Rattle.meaning.specs.Lists.{null, member, _∈_}
 use Rattle.meaning.specs.Expression.{Literal, wire, wire-store, store, Letter, Exp, letter, seq, alt, star, pipe, letters}
-use Rattle.meaning.specs.Shape.{SideBySide, meetsWires, wireHolds, first, follow, threads, together}
+use Rattle.meaning.specs.Shape.{SideBySide, meetsWires, wireHolds, first, follow, threads}
+use Rattle.meaning.specs.ShapeTests.{together}
 use Rattle.meaning.specs.Fit.{Tick, meets, holds, Run, Rest, pastTheEnd, anything, nothing, merge, both, runs, monitor, fits, met}
 use Rattle.meaning.specs.Positions.{Way, stuck, has, leave, Positions, at-start, on, goAll, go}
 use Rattle.meaning.proofs.ListLaws.{here, there, no-∈, ∈-left, ∈-right, each-∈, ∈-each, any-from, any-to, all-at, all-from, same-truth}

@@ -12,14 +12,18 @@ use lib.ListN.{length}
 use lib.Pow.{pow-pos, pow-mono, field as slice, mod-mod-pow}
 use borrow.Author.Tests.{ltb-false}
 use Rattle.meaning.specs.Lists.{_∈_, all, total}
-use Rattle.meaning.specs.Answers.{Answer, value, refused, letterOf, longRun}
+use Rattle.meaning.specs.Answers.{Answer, value, refused, letterOf}
+use Rattle.refusals.specs.Numbers.{longRun}
 use Rattle.meaning.specs.Expression.{Literal, wire, wire-store, store, Letter, field, Exp, letter, seq, alt, star, pipe, letters, size, rows, renumbered, Ordered}
-use Rattle.meaning.specs.Shape.{wireHolds, meetsWires, Unsatisfiable, Together, Sized, SizedLetters, AllRead, Shape, accepted, turned-away, shape, unsatisfiable, ambiguous, UnsatisfiableAt, AmbiguousAt}
-use Rattle.meaning.specs.Reading.{Program, read}
+use Rattle.meaning.specs.Shape.{wireHolds, meetsWires, Unsatisfiable, Together, UnsatisfiableAt, AmbiguousAt}
+use Rattle.meaning.specs.ShapeTests.{Sized, SizedLetters, AllRead, Shape, accepted, turned-away, shape, unsatisfiable, ambiguous}
+use Rattle.meaning.specs.Reading.{read}
+use Rattle.meaning.specs.Names.{Program}
 use Rattle.meaning.specs.Opening
 use Rattle.meaning.specs.Opening.{Opened, asOpened, tooLong, misshapen, openProgram, openText}
 use Rattle.meaning.specs.Table.{HoldsAll, laidAll, asTable}
-use Rattle.meaning.specs.Calls.{replies, machineReplies}
+use Rattle.meaning.specs.Calls.{replies}
+use Rattle.meaning.specs.Positions.{machineReplies}
 use Rattle.meaning.proofs.ListLaws.{clash, cons-∈, no-∈, one-∈, map-∈, append-∈}
 use Rattle.meaning.proofs.Numbering.{renumbered-size, renumbered-rows, renumbered-ordered}
 use Rattle.meaning.proofs.Rows.{rows-no-more, program-held}

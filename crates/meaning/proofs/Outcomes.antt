@@ -13,10 +13,12 @@ use Rattle.lexer.specs.Signs.{semicolon, comma, atSign, star as asterisk, amper
 use Rattle.lexer.specs.Tokens as token
 use Rattle.lexer.specs.Tokens.{Token, Placed, tokens}
 use Rattle.lexer.proofs.Bools.{and-left, and-right, or-left, or-right}
-use Rattle.meaning.specs.Expression.{Literal, wire, wire-store, store, Write, from-wire, from-number, Exp, star}
-use Rattle.meaning.specs.Answers.{Answer, value, refused, byte, overlong, unknown, twice, oversize, crowded}
+use Rattle.meaning.specs.Names.{Declaration, Meaning, anInput, aStore, aDefine, aProduction, Names, noNames, newInput, newStore, newDefine, newProduction, declare, Program, programOf}
+use Rattle.meaning.specs.Expression.{Literal, wire, wire-store, store, Write, from-wire, from-number, Exp, star, storeTests, aLetter}
+use Rattle.meaning.specs.Answers.{Answer, value, refused, byte}
+use Rattle.refusals.specs.Numbers.{overlong, unknown, twice, oversize, crowded}
 use Rattle.meaning.specs.Reading
-use Rattle.meaning.specs.Reading.{Meaning, anInput, aStore, aDefine, aProduction, Names, noNames, newInput, newStore, newDefine, newProduction, declare, Level, newLevel, Open, onLevel, Context, inDefine, inLetter, Expect, statement, sign, nought, closing, inputName, inputMore, inputHigh, storeName, storeMore, storeHigh, storeFirst, defineName, operand, literal, negated, wireMore, bitIndex, wireEquals, storeEquals, literalMore, writeStore, writeValue, writeMore, operandMore, monitorName, monitorMore, textEnd, Program, Step, go, finished, fault, choose, is, atToken, notHere, unless, ifName, ifNumber, onName, onNumber, byKind, known, newName, step, andThen, readOn, read, behindOperand, behindLiteral, literalName, storeTests, tooMany, toZero, whole, aLetter, behindWord, programOf}
+use Rattle.meaning.specs.Reading.{Level, newLevel, Open, onLevel, Context, inDefine, inLetter, Expect, statement, sign, nought, closing, inputName, inputMore, inputHigh, storeName, storeMore, storeHigh, storeFirst, defineName, operand, literal, negated, wireMore, bitIndex, wireEquals, storeEquals, literalMore, writeStore, writeValue, writeMore, operandMore, monitorName, monitorMore, textEnd, Step, go, finished, fault, choose, is, atToken, notHere, unless, ifName, ifNumber, onName, onNumber, byKind, known, newName, step, andThen, readOn, read, behindOperand, behindLiteral, literalName, tooMany, toZero, whole, behindWord}
 use Rattle.meaning.specs.Grammar.{Stands, Free}
 use Rattle.meaning.proofs.ListLaws.{clash}
 use Rattle.meaning.proofs.Steps.{of-choose, of-kind, of-unless}
@@ -49,7 +51,7 @@ pub data BySign (ns : Names) : ℕ → Expect → Names → Expect → Type 0 wh
   -- the sign that had to come
   expected : {k : ℕ} {x : Expect} → BySign ns k (sign k x) ns x
   -- the end of a declaration
-  closed : {d : Reading.Declaration} → BySign ns semicolon (closing d) (declare d ns) statement
+  closed : {d : Declaration} → BySign ns semicolon (closing d) (declare d ns) statement
   -- behind the name of an input or a store
   narrow-input : {s : List ℕ} → BySign ns semicolon (inputMore s) (declare (newInput s 1) ns) statement
   wide-input : {s : List ℕ} → BySign ns leftBracket (inputMore s) ns (inputHigh s)

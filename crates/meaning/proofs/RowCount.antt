@@ -8,7 +8,8 @@ use native.Mathlib.Omega.{arith}
 use lib.Dec.{T}
 use Rattle.meaning.specs.Lists.{_∈_, total}
 use Rattle.meaning.specs.Expression.{Exp, letter, seq, alt, star, pipe, size, rows, renumbered}
-use Rattle.meaning.specs.Shape.{nullable, accepted, shape}
+use Rattle.meaning.specs.Shape.{nullable}
+use Rattle.meaning.specs.ShapeTests.{accepted, shape}
 use Rattle.meaning.specs.Summary.{orLater, unlessNullable, hollowAt}
 use Rattle.meaning.proofs.ListLaws.{here, there, map-∈, clash}
 use Rattle.meaning.proofs.Step.{Solid}

@@ -7,7 +7,8 @@ use Prim.Native.Nat.{ℕ}
 use lib.Dec.{T, T-not, not-T, eqb, eqb→eq, eqb-refl}
 use Rattle.meaning.specs.Lists.{_∈_, any, null, only}
 use Rattle.meaning.specs.Expression.{Letter, Exp, letter, seq, alt, star, pipe, letters}
-use Rattle.meaning.specs.Shape.{SizedLetters, nullable, first, last, follow, threads, groups, Together, agree, together, numbers, unsatisfiable, parts, head, nullables, openEnds, ambiguous, UnsatisfiableAt, NullableAt, OpenEndAt, SideBySide, AmbiguousAt}
+use Rattle.meaning.specs.Shape.{nullable, first, last, follow, threads, Together, parts, head, UnsatisfiableAt, NullableAt, OpenEndAt, SideBySide, AmbiguousAt}
+use Rattle.meaning.specs.ShapeTests.{SizedLetters, groups, agree, together, numbers, unsatisfiable, nullables, openEnds, ambiguous}
 use Rattle.meaning.proofs.ListLaws.{here, there, cons-∈, no-∈, append-∈, ∈-left, ∈-right, ∈-map, map-∈, ∈-cast, one-∈, ∈-each, each-∈, ∈-only, only-∈, T-and, and-T, any-from, any-to}
 use Rattle.meaning.proofs.OneWay.{first-letters, last-has, follow-in}
 use Rattle.meaning.proofs.Bits.{unsatisfiable-exactly, together-exactly}

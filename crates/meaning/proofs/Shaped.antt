@@ -7,7 +7,8 @@ use native.Mathlib.Omega.{arith}
 use native.Mathlib.Decide.{decLt}
 use Rattle.meaning.specs.Lists.{_∈_}
 use Rattle.meaning.specs.Expression.{Exp}
-use Rattle.meaning.specs.Shape.{SizedLetters, unsatisfiable, nullables, openEnds, ambiguous, least, Shape, accepted, turned-away, firstOf, shape, UnsatisfiableAt, NullableAt, OpenEndAt, AmbiguousAt, Never, Lowest}
+use Rattle.meaning.specs.Shape.{UnsatisfiableAt, NullableAt, OpenEndAt, AmbiguousAt, Never, Lowest}
+use Rattle.meaning.specs.ShapeTests.{SizedLetters, unsatisfiable, nullables, openEnds, ambiguous, least, Shape, accepted, turned-away, firstOf, shape}
 use Rattle.meaning.proofs.ListLaws.{here, there, cons-∈, no-∈, ∈-cast, clash}
 use Rattle.meaning.proofs.Rules.{unsatisfiable-at, nullable-at, open-end-at, ambiguous-at}
 

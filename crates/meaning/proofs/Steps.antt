@@ -6,7 +6,8 @@ use mathlib.Core.Option.{Option, none, some}
 use Prim.Native.Nat.{ℕ}
 use Rattle.lexer.specs.Tokens.{Placed}
 use Rattle.meaning.specs.Expression.{Literal, Exp}
-use Rattle.meaning.specs.Reading.{Meaning, anInput, aStore, aDefine, aProduction, Step, choose, unless, atToken, byKind}
+use Rattle.meaning.specs.Reading.{Step, choose, unless, atToken, byKind}
+use Rattle.meaning.specs.Names.{Meaning, anInput, aStore, aDefine, aProduction}
 
 module _ (P : Step → Type 0) where
   pub of-choose : (t : Bool) (a b : Step) → (t ≡ true → P a) → (t ≡ false → P b) → P (choose t a b)

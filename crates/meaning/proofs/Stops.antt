@@ -7,7 +7,8 @@ use Prim.Native.Nat.{ℕ}
 use Rattle.lexer.specs.Tokens.{Token, Placed, goesOn, tokenAt, tokensAt}
 use Rattle.lexer.proofs.Order.{tokens-step}
 use Rattle.meaning.specs.Answers.{Answer}
-use Rattle.meaning.specs.Reading.{Names, Expect, Program, Step, go, finished, fault, step, andThen, readOn}
+use Rattle.meaning.specs.Reading.{Expect, Step, go, finished, fault, step, andThen, readOn}
+use Rattle.meaning.specs.Names.{Names, Program}
 use Rattle.meaning.proofs.ListLaws.{clash}
 use Rattle.meaning.proofs.Outcomes.{Next, by-sign, by-number, by-name, by-word, Outcome, refusal, late, ended, goes, outcome}
 

@@ -10,8 +10,9 @@ use lib.Dec.{ltb}
 use borrow.Author.Tests.{ltb-true, ltb-false, lt-ltb, le-ltb}
 use Rattle.meaning.specs.Lists.{each, only}
 use Rattle.meaning.specs.Expression.{Letter, Exp, letter, seq, alt, star, pipe, letters, size, renumbered}
-use Rattle.meaning.specs.Answers.{impossible, hollow, openEnd, fork}
-use Rattle.meaning.specs.Shape.{Shape, accepted, nullable, agree, unsatisfiable, parts, head, nullables, openEnds, ambiguous, least, firstOf, shape}
+use Rattle.refusals.specs.Numbers.{impossible, hollow, openEnd, fork}
+use Rattle.meaning.specs.Shape.{nullable, parts, head}
+use Rattle.meaning.specs.ShapeTests.{Shape, accepted, agree, unsatisfiable, nullables, openEnds, ambiguous, least, firstOf, shape}
 use Rattle.meaning.specs.Summary.{counted, orLater, impossibleAt, unlessNullable, hollowAt, turnedAt}
 use Rattle.meaning.proofs.ListLaws.{each-append, clash}
 

@@ -12,7 +12,8 @@ use Rattle.meaning.specs.Expression.{rows, Letter, Exp, letter, seq, alt
 use Rattle.meaning.specs.Shape.{nullable}
 use Rattle.meaning.specs.Fit.{Tick}
 use Rattle.meaning.specs.Positions.{Way, stuck, over, joined, Entered, met, passed, blocked, thenEnter, orEnter, orPass, enter, goesBy, ask, leave, on, at-start, go, goAll}
-use Rattle.meaning.specs.Table.{Under, Holds, Kind, is-letter, is-seq, is-alt, is-star, is-pipe, Table, enterBy, leaveBy, enterRow, askRow, leaveRow}
+use Rattle.meaning.specs.Table.{Under, Holds, Kind, is-letter, is-seq, is-alt, is-star, is-pipe, Table}
+use Rattle.meaning.specs.RowWalk.{enterBy, leaveBy, enterRow, askRow, leaveRow}
 use Rattle.meaning.proofs.ListLaws.{here, there, append-∈, one-∈, is-true, is-false}
 use Rattle.meaning.proofs.Step.{Solid}
 use Rattle.meaning.proofs.Entering.{passed-nullable}

@@ -1,4 +1,4 @@
--- The watch is right: its answers are the verdicts, on every list of words.
+-- The watch is right: where it stands as the words so far lead, its answer is the verdict, and it stands as one word more leads.
 use mathlib.Core.List.{List, [], _∷_, _++_, map}
 use mathlib.Core.Bool.{cond}
 use mathlib.Core.Option.{Option, none, some, Option·none-ne-some}
@@ -6,8 +6,8 @@ use mathlib.Core.Path.{subst, _≡_, refl, sym, ap, _∙_, fun-ext}
 use Prim.Native.Nat.{ℕ, suc}
 use Rattle.meaning.specs.Lists.{carry, member}
 use Rattle.meaning.specs.Expression.{Exp, letters}
-use Rattle.meaning.specs.Fit.{Verdict, History, start, tick, ok, bad, onOk, onward, judged, Tick, met, writeMet, write, verdict, verdicts}
-use Rattle.meaning.specs.Positions.{Watch, ticked, answer, told, moved, movedBy, opened, Positions, at-start, on, go, Ticked, fine, wrong, goOn, goEach, writeEach, keptEach, answers}
+use Rattle.meaning.specs.Fit.{History, start, tick, ok, bad, onward, judged, Tick, met, writeMet, write, verdict}
+use Rattle.meaning.specs.Positions.{Watch, ticked, answer, told, moved, movedBy, opened, Positions, at-start, on, go, Ticked, fine, wrong, goOn, goEach, writeEach, keptEach}
 use Rattle.meaning.proofs.ListLaws.{clash}
 use Rattle.meaning.proofs.Active.{then, positionsAfter}
 use Rattle.meaning.proofs.Monitor.{Accepted, same-member, positions-snoc, fits-yes, fits-no, positions-met}
@@ -106,20 +106,3 @@ module _ (ms : List Exp) (ac : AllAccepted ms) (h : History) (v : Watch) (tr : T
       by : (k : Ticked) → Right 0 ms (h .ticks) (tick h w) k → Tracks ms (onward ms h w) (movedBy ms v w k)
       by (wrong j) r = clash (cc)
       by (fine nss) r = (r .1, sym (r .2 (h .stores)) ∙ ap (λ σ. writeEach (record { word = w; stores = σ }) ms nss σ) (tr .1))
-
--- ---- a list of words ----
-
-on-ok-same : (x : Verdict) (vs us : List Verdict) → (x ≡ ok → vs ≡ us) → onOk x vs ≡ onOk x us
-on-ok-same ok vs us h = ap (λ l. ok ∷ l) (h refl)
-on-ok-same (bad m) vs us h = refl
-
-answers-from : (ms : List Exp) → AllAccepted ms → (ws : List ℕ) (h : History) (v : Watch) → Tracks ms h v → answers ms v ws ≡ verdicts ms h ws
-unfolding answers verdicts
-answers-from ms ac [] h v tr = refl
-answers-from ms ac (w ∷ ws) h v tr =
-    ap (λ x. onOk x (answers ms (moved ms v w) ws)) (same-verdict ms ac h v tr w)
-    ∙ on-ok-same (judged ms h w) _ _ (λ p. answers-from ms ac ws (onward ms h w) (moved ms v w) (same-move ms ac h v tr w p))
-
--- The watch over accepted monitors answers each list of words with its verdicts.
-pub right-answers : (ms : List Exp) → AllAccepted ms → (initial ws : List ℕ) → answers ms (opened ms initial) ws ≡ verdicts ms (start initial) ws
-right-answers ms ac initial ws = answers-from ms ac ws (start initial) (opened ms initial) (opened-tracks ms initial)

@@ -14,10 +14,11 @@ use borrow.Author.Tests.{ltb-false}
 use Rattle.lexer.specs.Bytes.{Entry, same, lookup}
 use Rattle.lexer.specs.Tokens as token
 use Rattle.lexer.specs.Tokens.{Token}
-use Rattle.meaning.specs.Expression.{Literal, wire, wire-store, store, Write, from-wire, from-number, Exp, letter, seq, alt, star, pipe}
+use Rattle.meaning.specs.Expression.{Literal, wire, wire-store, store, Write, from-wire, from-number, Exp, letter, seq, alt, star, pipe, storeTests}
 use Rattle.meaning.specs.Answers.{value}
 use Rattle.meaning.specs.Reading
-use Rattle.meaning.specs.Reading.{Meaning, anInput, aStore, aDefine, aProduction, Names, Declaration, newInput, newStore, newDefine, newProduction, declare, Level, Open, Context, inDefine, inLetter, Expect, statement, sign, nought, closing, inputName, inputMore, inputHigh, storeName, storeMore, storeHigh, storeFirst, defineName, operand, literal, negated, wireMore, bitIndex, wireEquals, storeEquals, literalMore, writeStore, writeValue, writeMore, operandMore, monitorName, monitorMore, textEnd, Program, read, storeTests, tooMany, whole, behindWord}
+use Rattle.meaning.specs.Reading.{Level, Open, Context, inDefine, inLetter, Expect, statement, sign, nought, closing, inputName, inputMore, inputHigh, storeName, storeMore, storeHigh, storeFirst, defineName, operand, literal, negated, wireMore, bitIndex, wireEquals, storeEquals, literalMore, writeStore, writeValue, writeMore, operandMore, monitorName, monitorMore, textEnd, read, tooMany, whole, behindWord}
+use Rattle.meaning.specs.Names.{Meaning, anInput, aStore, aDefine, aProduction, Names, Declaration, newInput, newStore, newDefine, newProduction, declare, Program}
 use Rattle.meaning.specs.Grammar.{Stands}
 use Rattle.meaning.proofs.ListLaws.{clash}
 use Rattle.meaning.proofs.Outcomes.{LiteralNext, more-literals, first-literal, BehindLiterals, literals, one-wire, BehindOperand, operands, letters, WriteNext, first-write, more-writes, BySign, expected, closed, narrow-input, wide-input, narrow-store, wide-store, opened, negation, index, compared, joined, defined, writing, written, starred, piped, followed, or-else, level-closed, produced, more-monitors, all-monitors, ByNumber, zero-read, input-width, store-width, first-value, bit-index, wire-value, store-value, number-written, ByName, new-input, new-store, new-define, new-production, of-wire, of-store, of-define, of-production, of-negated, equal-store, store-written, wire-written, monitored, Next, by-sign, by-number, by-name, by-word, kept}

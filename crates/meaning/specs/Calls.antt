@@ -7,15 +7,14 @@ use Prim.Native.Nat.{ℕ, suc, _^_, _≤_, _<_}
 use lib.Dec.{T, leb}
 use lib.ListN.{length, take, getD}
 use Rattle.meaning.specs.Lists.{any, count, only}
-use Rattle.meaning.specs.Answers as answers
+use Rattle.refusals.specs.Numbers as number
 use Rattle.meaning.specs.Expression.{Exp}
 use Rattle.meaning.specs.Fit.{Verdict, ok as clean, bad as broken, start, onward, history, judged}
-use Rattle.meaning.specs.Positions.{opened, answer, moved}
 
 pub data Reply : Type 0 where
   ok : Reply
   bad : (monitor : ℕ) → Reply
-  refused : (number : ℕ) → Reply
+  refused : (number place : ℕ) → Reply
 
 abbrev pub replyOf : Verdict → Reply
 replyOf clean = ok
@@ -48,9 +47,9 @@ module _ {S : Type 0} where
   -- ok or bad." The state holds just what this asks of the earlier calls: only ok adds to oks, and only bad sets stopped.
   unfoldable pub reply : (judge : S → ℕ → Verdict) (wires : ℕ) → State S → ℕ → Reply
   reply judge wires s w =
-      cond (s .stopped) (refused answers.stopped)
-      (cond (isFull (s .oks)) (refused answers.full)
-      (cond (isStray wires w) (refused answers.stray)
+      cond (s .stopped) (refused number.stopped 0)
+      (cond (isFull (s .oks)) (refused number.full 0)
+      (cond (isStray wires w) (refused number.stray 0)
       (replyOf (judge (s .inner) w))))
 
   -- "The words are those of the calls not refused, in order": an ok call's word is moved by. After a bad one "the watch is
@@ -58,7 +57,7 @@ module _ {S : Type 0} where
   abbrev pub after : (move : S → ℕ → S) → State S → ℕ → Reply → State S
   after move s w ok = record { inner = move (s .inner) w; oks = suc (s .oks); stopped = s .stopped }
   after move s w (bad m) = record { inner = s .inner; oks = s .oks; stopped = true }
-  after move s w (refused n) = s
+  after move s w (refused n p) = s
 
   -- "Each call gets the watch that the call before it returned or left"
   unfoldable pub repliesFrom : (judge : S → ℕ → Verdict) (move : S → ℕ → S) (wires : ℕ) → State S → List ℕ → List Reply
@@ -69,26 +68,22 @@ module _ {S : Type 0} where
 abbrev pub replies : List Exp → List ℕ → ℕ → List ℕ → List Reply
 replies ms initial wires ws = repliesFrom (judged ms) (onward ms) wires (opening (start initial)) ws
 
--- the replies of the machine of active positions
-abbrev pub machineReplies : List Exp → List ℕ → ℕ → List ℕ → List Reply
-machineReplies ms initial wires ws = repliesFrom (answer ms) (moved ms) wires (opening (opened ms initial)) ws
-
 -- ---- the same sentence, of one call and the list of those before it ----
 
 abbrev pub isOk : Reply → Bool
 isOk ok = true
 isOk (bad m) = false
-isOk (refused n) = false
+isOk (refused n p) = false
 
 abbrev pub isBad : Reply → Bool
 isBad ok = false
 isBad (bad m) = true
-isBad (refused n) = false
+isBad (refused n p) = false
 
 abbrev pub isRefused : Reply → Bool
 isRefused ok = false
 isRefused (bad m) = false
-isRefused (refused n) = true
+isRefused (refused n p) = true
 
 -- the words of the calls not refused
 abbrev pub judgedWords : List ℕ → List Reply → List ℕ
@@ -98,9 +93,9 @@ judgedWords (w ∷ ws) (r ∷ rs) = only (not (isRefused r)) (w ∷ []) ++ judge
 
 -- the call with word w, after calls with the words ws and the replies rs, is rightly answered with r
 pub record Rightly (ms : List Exp) (initial : List ℕ) (wires : ℕ) (ws : List ℕ) (rs : List Reply) (w : ℕ) (r : Reply) : Type 0 where
-  pub stopped : r ≡ refused 16 ↔ T (any isBad rs)
-  pub full : r ≡ refused 17 ↔ (T (not (any isBad rs)) × (count isOk rs ≡ 1000000))
-  pub stray : r ≡ refused 15 ↔ (T (not (any isBad rs)) × (count isOk rs ≡ 1000000 → ⊥) × (2 ^ wires ≤ w))
+  pub stopped : r ≡ refused 16 0 ↔ T (any isBad rs)
+  pub full : r ≡ refused 17 0 ↔ (T (not (any isBad rs)) × (count isOk rs ≡ 1000000))
+  pub stray : r ≡ refused 15 0 ↔ (T (not (any isBad rs)) × (count isOk rs ≡ 1000000 → ⊥) × (2 ^ wires ≤ w))
   pub other : T (not (any isBad rs)) → (count isOk rs ≡ 1000000 → ⊥) → w < 2 ^ wires → r ≡ replyOf (judged ms (history ms initial (judgedWords ws rs)) w)
 
 -- every call of the list is

@@ -1,7 +1,7 @@
 -- Letters and expressions, productions already opened.
 use mathlib.Core.List.{List, [], _∷_, _++_}
 use mathlib.Core.Path.{_≡_}
-use Prim.Native.Nat.{ℕ, _+_, _/_, _%_, _^_}
+use Prim.Native.Nat.{ℕ, suc, _+_, _/_, _%_, _^_}
 
 -- ---- letters ----
 
@@ -23,6 +23,13 @@ pub record Letter : Type 0 where
   pub number : ℕ
   pub literals : List Literal
   pub writes : List Write
+
+-- the store tests among literals
+unfoldable pub storeTests : List Literal → ℕ
+storeTests [] = 0
+storeTests (wire lo width v ∷ ls) = storeTests ls
+storeTests (wire-store lo width s ∷ ls) = suc (storeTests ls)
+storeTests (store s v ∷ ls) = suc (storeTests ls)
 
 -- the value of wires in a word
 abbrev pub field : (lo width word : ℕ) → ℕ
@@ -61,6 +68,10 @@ rows (alt e f) = 1 + rows e + rows f
 rows (star e) = 1 + rows e
 rows (pipe e f) = 1 + rows e + rows f
 
+-- a letter that is read; its number is given when the program is opened
+abbrev pub aLetter : List Literal → List Write → Exp
+aLetter ls ws = letter (record { number = 0; literals = ls; writes = ws })
+
 -- ---- "Letters are numbered from 0 within a monitor in reading order" ----
 
 -- the same expression with its letters numbered from k; a monitor's are from 0
@@ -70,11 +81,6 @@ renumbered k (seq e f) = seq (renumbered k e) (renumbered (k + size e) f)
 renumbered k (alt e f) = alt (renumbered k e) (renumbered (k + size e) f)
 renumbered k (star e) = star (renumbered k e)
 renumbered k (pipe e f) = pipe (renumbered k e) (renumbered (k + size e) f)
-
--- the monitors with their letters numbered over all of them, from k
-unfoldable pub numberedFrom : ℕ → List Exp → List Exp
-numberedFrom k [] = []
-numberedFrom k (m ∷ ms) = renumbered k m ∷ numberedFrom (k + size m) ms
 
 -- its letters are numbered from k
 abbrev pub Ordered : ℕ → Exp → Type 0

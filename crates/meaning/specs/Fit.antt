@@ -136,11 +136,6 @@ pub data Verdict : Type 0 where
   ok : Verdict
   bad : (monitor : ℕ) → Verdict
 
--- a verdict, and if it is ok those that come after it
-abbrev pub onOk : Verdict → List Verdict → List Verdict
-onOk ok vs = ok ∷ vs
-onOk (bad m) vs = bad m ∷ []
-
 -- "the lowest monitor that no longer fits", counted from i
 unfoldable pub verdict : ℕ → List Exp → List Tick → Verdict
 verdict i [] ts = ok
@@ -149,8 +144,3 @@ verdict i (m ∷ ms) ts = cond (fits m ts) (verdict (suc i) ms ts) (bad i)
 -- the verdict on word w after the words of h
 abbrev pub judged : List Exp → History → ℕ → Verdict
 judged ms h w = verdict 0 ms (h .ticks ++ tick h w ∷ [])
-
--- the verdicts on words one after the other, up to the first bad one
-unfoldable pub verdicts : List Exp → History → List ℕ → List Verdict
-verdicts ms h [] = []
-verdicts ms h (w ∷ ws) = onOk (judged ms h w) (verdicts ms (onward ms h w) ws)

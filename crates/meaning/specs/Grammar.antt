@@ -9,9 +9,9 @@ use Prim.Native.Nat.{ℕ, suc, _+_, _^_, _≤_, _<_}
 use lib.ListN.{length}
 use Rattle.lexer.specs.Bytes.{lookup}
 use Rattle.lexer.specs.Tokens.{Token, Placed, name, word, number, sign, end, input, internal, define, monitor, tokens}
-use Rattle.meaning.specs.Expression.{Literal, wire, wire-store, store, Write, from-wire, from-number, Exp, seq, alt, star, pipe}
+use Rattle.meaning.specs.Expression.{Literal, wire, wire-store, store, Write, from-wire, from-number, Exp, seq, alt, star, pipe, storeTests, aLetter}
 use Rattle.lexer.specs.Signs.{semicolon, comma, atSign, star as asterisk, ampersand, bang, leftParen, rightParen, leftBracket, rightBracket, leftBrace, rightBrace, colon, equals, doubleEquals, doubleBar, rightArrow, leftArrow}
-use Rattle.meaning.specs.Reading.{Meaning, anInput, aStore, aDefine, aProduction, Names, noNames, Declaration, newInput, newStore, newDefine, newProduction, declare, storeTests, aLetter, Program}
+use Rattle.meaning.specs.Names.{Meaning, anInput, aStore, aDefine, aProduction, Names, noNames, Declaration, newInput, newStore, newDefine, newProduction, declare, Program}
 
 -- "Names stand above their use": the name s is declared above, and stands for m
 abbrev pub Stands : Names → List ℕ → Meaning → Type 0

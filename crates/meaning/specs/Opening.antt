@@ -5,9 +5,11 @@ use Prim.Native.Nat.{ℕ, suc, _+_}
 use lib.Dec.{ltb}
 use Rattle.meaning.specs.Lists.{total}
 use Rattle.meaning.specs.Expression.{Exp, size, rows, renumbered}
-use Rattle.meaning.specs.Shape.{Shape, accepted, turned-away, shape}
-use Rattle.meaning.specs.Answers.{Answer, value, refused, letterOf, longRun}
-use Rattle.meaning.specs.Reading.{Program, read}
+use Rattle.meaning.specs.ShapeTests.{Shape, accepted, turned-away, shape}
+use Rattle.meaning.specs.Answers.{Answer, value, refused, letterOf}
+use Rattle.refusals.specs.Numbers.{longRun}
+use Rattle.meaning.specs.Reading.{read}
+use Rattle.meaning.specs.Names.{Program}
 
 -- What opening answers with: the program, its letters numbered from 0 within each monitor in reading order, and both counts.
 pub record Opened : Type 0 where
@@ -16,6 +18,18 @@ pub record Opened : Type 0 where
   pub monitors : List Exp
   pub rowCount : ℕ
   pub letterCount : ℕ
+
+-- What a caller is told of it: both counts.
+pub record Counts : Type 0 where
+  pub rows : ℕ
+  pub letters : ℕ
+
+abbrev pub counts : Opened → Counts
+counts o = record { rows = o .rowCount; letters = o .letterCount }
+
+unfoldable pub countsOf : Answer Opened → Answer Counts
+countsOf (value o) = value (counts o)
+countsOf (refused number place) = refused number place
 
 unfoldable pub asOpened : Program → Opened
 asOpened p = record {

@@ -6,7 +6,8 @@ use Prim.Native.Nat.{ℕ, suc}
 use lib.Dec.{eqb}
 use Rattle.meaning.specs.Lists.{each, any, only, member}
 use Rattle.meaning.specs.Expression.{Exp, letter, seq, alt, star, pipe, letters}
-use Rattle.meaning.specs.Fit.{Tick, meets, writeMet, Verdict, ok, bad, onOk}
+use Rattle.meaning.specs.Fit.{Tick, meets, writeMet, Verdict, ok, bad}
+use Rattle.meaning.specs.Calls.{Reply, opening, repliesFrom}
 
 -- ---- one monitor ----
 
@@ -160,7 +161,8 @@ told (wrong i) = bad i
 abbrev pub answer : List Exp → Watch → ℕ → Verdict
 answer ms v w = told (ticked ms v w)
 
--- the answers to words one after the other; the first bad one stops the watch
-unfoldable pub answers : List Exp → Watch → List ℕ → List Verdict
-answers ms v [] = []
-answers ms v (w ∷ ws) = onOk (answer ms v w) (answers ms (moved ms v w) ws)
+-- ---- lists of calls ----
+
+-- the replies of the machine of active positions
+abbrev pub machineReplies : List Exp → List ℕ → ℕ → List ℕ → List Reply
+machineReplies ms initial wires ws = repliesFrom (answer ms) (moved ms) wires (opening (opened ms initial)) ws

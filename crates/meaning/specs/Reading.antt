@@ -7,49 +7,14 @@ use mathlib.Core.Option.{Option, none, some}
 use Prim.Native.Nat.{ℕ, suc, _+_, _^_}
 use lib.Dec.{eqb, leb, ltb}
 use lib.ListN.{length}
-use Rattle.lexer.specs.Bytes.{Entry, lookup}
+use Rattle.lexer.specs.Bytes.{lookup}
 use Rattle.lexer.specs.Signs.{semicolon, comma, atSign, star as asterisk, ampersand, bang, leftParen, rightParen, leftBracket, rightBracket, leftBrace, rightBrace, colon, equals, doubleEquals, doubleBar, rightArrow, leftArrow}
 use Rattle.lexer.specs.Tokens as token
 use Rattle.lexer.specs.Tokens.{Token, Placed, tokens}
-use Rattle.meaning.specs.Expression.{Literal, wire, wire-store, store, Write, from-wire, from-number, Exp, letter, seq, alt, star, pipe}
-use Rattle.meaning.specs.Answers.{Answer, value, refused, byte, overlong, misplaced, unknown, twice, oversize, crowded}
-
--- ---- what has been declared
-
--- What a name stands for. A production's name stands for a copy of its expression, so the expression has no names left in it.
-pub data Meaning : Type 0 where
-  anInput : (lo width : ℕ) → Meaning
-  aStore : (number width : ℕ) → Meaning
-  aDefine : List Literal → Meaning
-  aProduction : Exp → Meaning
-
-pub record Names : Type 0 where
-  pub declared : List (Entry Meaning)
-  -- how many wires of the word are taken
-  pub wires : ℕ
-  -- the first values of the stores
-  pub initial : List ℕ
-
-abbrev pub noNames : Names
-noNames = record { declared = []; wires = 0; initial = [] }
-
-pub data Declaration : Type 0 where
-  newInput : List ℕ → (width : ℕ) → Declaration
-  newStore : List ℕ → (width initial : ℕ) → Declaration
-  newDefine : List ℕ → List Literal → Declaration
-  newProduction : List ℕ → Exp → Declaration
-
-abbrev pub withName : List ℕ → Meaning → List (Entry Meaning) → List (Entry Meaning)
-withName s m es = record { spelling = s; meaning = m } ∷ es
-
--- "Wires take the bits of a 64-bit word from bit 0 in order."
-unfoldable pub declare : Declaration → Names → Names
-declare (newInput s width) ns =
-    record { declared = withName s (anInput (ns .wires) width) (ns .declared); wires = ns .wires + width; initial = ns .initial }
-declare (newStore s width v) ns =
-    record { declared = withName s (aStore (length (ns .initial)) width) (ns .declared); wires = ns .wires; initial = ns .initial ++ (v ∷ []) }
-declare (newDefine s ls) ns = record { declared = withName s (aDefine ls) (ns .declared); wires = ns .wires; initial = ns .initial }
-declare (newProduction s e) ns = record { declared = withName s (aProduction e) (ns .declared); wires = ns .wires; initial = ns .initial }
+use Rattle.meaning.specs.Names.{Meaning, anInput, aStore, aDefine, aProduction, Names, noNames, Declaration, newInput, newStore, newDefine, newProduction, declare, Program, programOf}
+use Rattle.meaning.specs.Expression.{storeTests, aLetter, Literal, wire, wire-store, store, Write, from-wire, from-number, Exp, seq, alt, star, pipe}
+use Rattle.meaning.specs.Answers.{Answer, value, refused, byte}
+use Rattle.refusals.specs.Numbers.{overlong, misplaced, unknown, twice, oversize, crowded}
 
 -- ---- an expression that is being read
 
@@ -144,12 +109,6 @@ pub data Expect : Type 0 where
   monitorName : List Exp → Expect
   monitorMore : List Exp → Expect
   textEnd : List Exp → Expect
-
--- What reading gives: the number of wires, the stores' first values, and the monitors.
-pub record Program : Type 0 where
-  pub wires : ℕ
-  pub initial : List ℕ
-  pub monitors : List Exp
 
 -- what a token leads to
 pub data Step : Type 0 where
@@ -251,13 +210,6 @@ noExp t e = atToken unknown t
 
 -- ---- literals
 
--- the store tests among literals
-unfoldable pub storeTests : List Literal → ℕ
-storeTests [] = 0
-storeTests (wire lo width v ∷ ls) = storeTests ls
-storeTests (wire-store lo width s ∷ ls) = suc (storeTests ls)
-storeTests (store s v ∷ ls) = suc (storeTests ls)
-
 -- "2 store tests .. a letter after defines are opened": so many more are too many. A define may hold any number.
 abbrev pub tooMany : Context → List Literal → ℕ → Bool
 tooMany (inDefine s) ls more = false
@@ -301,9 +253,6 @@ behindOperand ns o e starred t =
     (choose (is rightParen t) (onRightParen ns o e (o .outer) t)
     (choose (is semicolon t) (onSemicolon ns o e (o .outer) t)
     (notHere t))))))
-
-abbrev pub aLetter : List Literal → List Write → Exp
-aLetter ls ws = letter (record { number = 0; literals = ls; writes = ws })
 
 unfoldable pub behindLiteral : Names → Context → List Literal → Placed → Step
 behindLiteral ns (inDefine s) ls t =
@@ -353,9 +302,6 @@ begin ns t (token.number n) = notHere t
 begin ns t (token.sign n) = notHere t
 begin ns t token.end = notHere t
 begin ns t (token.refused n) = notHere t
-
-abbrev pub programOf : Names → List Exp → Program
-programOf ns ms = record { wires = ns .wires; initial = ns .initial; monitors = ms }
 
 abbrev pub atEnd : Names → List Exp → Placed → Token → Step
 atEnd ns ms t (token.name s) = notHere t

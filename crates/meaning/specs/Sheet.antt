@@ -1,12 +1,12 @@
 -- The printed sheet (01, "The printed sheet"), as a list of bytes from the bytes of the rule text and of the trace. Assumes nothing.
 use mathlib.Core.Bool.{cond}
-use mathlib.Core.List.{List, [], _∷_, _++_}
+use mathlib.Core.List.{List, [], _∷_, _++_, map}
 use Prim.Native.Nat.{ℕ, zero, suc, _+_, _/_, _%_, _^_, _*_}
 use lib.Dec.{ltb}
 use lib.ListN.{length, drop}
 use Rattle.lexer.specs.Bytes.{bytes}
-use Rattle.meaning.specs.Answers.{Answer, value, refused, Place, byte, letterOf, tick}
-use Rattle.meaning.specs.Opening.{Opened, openText}
+use Rattle.meaning.specs.Answers.{Answer, value, refused, Place, byte, letterOf}
+use Rattle.meaning.specs.Opening.{Opened, Counts, countsOf, openText}
 use Rattle.meaning.specs.Fit.{History, start, onward, judged}
 use Rattle.meaning.specs.Calls as calls
 use Rattle.meaning.specs.Calls.{Reply, ok, bad, State, opening, reply, after}
@@ -44,17 +44,22 @@ line (f ∷ fs) = f ++ more fs
     more [] = 10 ∷ []
     more (g ∷ gs) = 32 ∷ (g ++ more gs)
 
-abbrev placeFields : Place → List (List ℕ)
-placeFields (byte n) = decimal n ∷ []
-placeFields (letterOf m l) = decimal m ∷ decimal l ∷ []
-placeFields (tick n) = decimal n ∷ []
-
 -- "A refusal prints `refused` with number and place"
-unfoldable pub refusalLine : ℕ → Place → List ℕ
-refusalLine number place = line (bytes "refused" ∷ decimal number ∷ placeFields place)
+unfoldable pub refusalLine : (number : ℕ) → (place : List ℕ) → List ℕ
+refusalLine number place = line (bytes "refused" ∷ decimal number ∷ map decimal place)
 
-unfoldable pub countsLine : Opened → List ℕ
-countsLine o = line (bytes "rows" ∷ decimal (o .rowCount) ∷ bytes "letters" ∷ decimal (o .letterCount) ∷ [])
+-- a byte; or monitor and letter
+abbrev pub placeNumbers : Place → List ℕ
+placeNumbers (byte n) = n ∷ []
+placeNumbers (letterOf m l) = m ∷ l ∷ []
+
+unfoldable pub countsLine : Counts → List ℕ
+countsLine c = line (bytes "rows" ∷ decimal (c .rows) ∷ bytes "letters" ∷ decimal (c .letters) ∷ [])
+
+-- the first line: both counts, or the refusal
+abbrev pub firstLine : Answer Counts → List ℕ
+firstLine (value c) = countsLine c
+firstLine (refused number place) = refusalLine number (placeNumbers place)
 
 -- "per tick its number, the word in 16 lower-case hexadecimal digits, and `ok` or `bad M`"
 abbrev tickLine : ℕ → ℕ → List (List ℕ) → List ℕ
@@ -70,13 +75,13 @@ cleanLine n = line (bytes "clean" ∷ decimal n ∷ [])
 abbrev onReply : Reply → ℕ → ℕ → List ℕ → List ℕ
 onReply ok t w rest = tickLine t w (bytes "ok" ∷ []) ++ rest
 onReply (bad m) t w rest = tickLine t w (bytes "bad" ∷ decimal m ∷ [])
-onReply (calls.refused number) t w rest = refusalLine number (tick t)
+onReply (calls.refused number place) t w rest = refusalLine number (t ∷ [])
 
 -- what was read at tick t, and the lines for a word of so many bytes
 abbrev onItem : trace.Answer Item → ℕ → (ℕ → ℕ → List ℕ) → List ℕ
 onItem (trace.value (word w n)) t next = next w n
 onItem (trace.value end) t next = cleanLine t
-onItem (trace.refused number place) t next = refusalLine number (tick t)
+onItem (trace.refused number place) t next = refusalLine number (t ∷ [])
 
 -- the lines from tick t on, where these bytes are left; a record has at least one byte
 unfoldable pub tickLines : ℕ → Opened → State History → ℕ → List ℕ → ℕ → List ℕ
@@ -87,13 +92,13 @@ tickLines (suc k) o s t rest before =
     let more = tickLines k o (after (onward (o .monitors)) s w r) (suc t) (drop n rest) w in
     onReply r t w more)
 
-abbrev ofText : Answer Opened → List ℕ → List ℕ
-ofText (value o) records = countsLine o ++ tickLines (length records) o (opening (start (o .initial))) 0 records 0
-ofText (refused number place) records = refusalLine number place
+-- the lines behind the first: "for a refused text that line is the whole sheet"
+abbrev linesBehind : Answer Opened → List ℕ → List ℕ
+linesBehind (value o) records = tickLines (length records) o (opening (start (o .initial))) 0 records 0
+linesBehind (refused number place) records = []
 
--- "for a refused text that line is the whole sheet"
 unfoldable pub sheet : List ℕ → List ℕ → List ℕ
-sheet text records = ofText (openText text) records
+sheet text records = firstLine (countsOf (openText text)) ++ linesBehind (openText text) records
 
 -- The C program hands over a byte range for the printed sheet. "It gets the sheet's length, or 0 and an untouched range if that is too short." What is beyond the sheet is untouched too.
 unfoldable pub lentSheet : List ℕ → List ℕ → List ℕ → Lent

@@ -4,7 +4,8 @@ use mathlib.Core.Bool.{cond}
 use mathlib.Core.Option.{Option, none, some}
 use Prim.Native.Nat.{ℕ, _+_, min}
 use Rattle.meaning.specs.Expression.{Exp, letter, seq, alt, star, pipe, size}
-use Rattle.meaning.specs.Shape.{Shape, turned-away, nullable, agree}
+use Rattle.meaning.specs.Shape.{nullable}
+use Rattle.meaning.specs.ShapeTests.{Shape, turned-away, agree}
 
 -- 8: letters are counted up to 257, which is over 256 like any more
 abbrev pub counted : ℕ → ℕ

@@ -9,8 +9,9 @@ use lib.Dec.{T}
 use lib.ListN.{length, getD}
 use Rattle.meaning.specs.Lists.{_∈_, carry, total}
 use Rattle.meaning.specs.Answers.{value}
-use Rattle.meaning.specs.Expression.{Letter, Exp, star, letters, size, rows, renumbered, Ordered, numberedFrom}
-use Rattle.meaning.specs.Shape.{agree, AllSized}
+use Rattle.meaning.specs.Expression.{Letter, Exp, star, letters, size, rows, renumbered, Ordered}
+use Rattle.meaning.specs.Numbered.{numberedFrom}
+use Rattle.meaning.specs.ShapeTests.{agree, AllSized}
 use Rattle.meaning.specs.Fit.{Tick, meets, write}
 use Rattle.meaning.specs.Positions as machine
 use Rattle.meaning.specs.Table.{Table}

@@ -16,7 +16,7 @@ mod Numbered
 mod RowWords
 mod LetterIndex
 mod LetterRows
-mod Program
+pub mod Program
 mod Padded
 mod Readable
 mod LetterTests

@@ -11,7 +11,8 @@ use lib.ListN.{length, getD, length-replicate}
 use Rattle.meaning.specs.Lists.{_∈_}
 use Rattle.meaning.specs.Fit.{Tick}
 use Rattle.meaning.specs.Positions.{joined, Entered, met, passed, blocked}
-use Rattle.meaning.specs.Table.{Table, enterRow, leaveRow}
+use Rattle.meaning.specs.Table.{Table}
+use Rattle.meaning.specs.RowWalk.{enterRow, leaveRow}
 use Rattle.meaning.proofs.ListLaws.{no-∈, append-∈, ∈-left, ∈-right}
 use Rattle.monitor.specs.Walk.{Came, Told, told, andThen, answerCode}
 use Rattle.monitor.specs.Ticks.{emptyMemory}

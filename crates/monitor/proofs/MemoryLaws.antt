@@ -13,7 +13,8 @@ use lib.ListN.{length, getD, set, length-set}
 use lib.Seq.{getD-set-same, getD-set-other}
 use Rattle.meaning.specs.Fit.{Tick, meets}
 use Rattle.meaning.specs.Positions.{Entered, met, passed, blocked, thenEnter, orEnter, orPass, goesBy}
-use Rattle.meaning.specs.Table.{Kind, is-letter, is-seq, is-alt, is-star, is-pipe, Table, enterBy, leaveBy, enterRow, askRow, leaveRow}
+use Rattle.meaning.specs.Table.{Kind, is-letter, is-seq, is-alt, is-star, is-pipe, Table}
+use Rattle.meaning.specs.RowWalk.{enterBy, leaveBy, enterRow, askRow, leaveRow}
 use Rattle.lexer.proofs.Bools.{eqb-sym}
 use Rattle.meaning.proofs.ListLaws.{here, one-∈}
 use Rattle.meaning.proofs.Ends.{entersBy, leavesBy, EnterEnds, AskEnds, LeaveEnds, enter-calls, enter-unfolds, ask-unfolds, passes-on, leave-calls, leave-unfolds, own-calls, own-unfolds}

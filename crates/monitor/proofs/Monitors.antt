@@ -13,7 +13,8 @@ use Rattle.meaning.specs.Lists.{_∈_}
 use Rattle.meaning.specs.Expression.{Letter, Exp, star, letters, size, rows, renumbered, Ordered}
 use Rattle.meaning.specs.Fit.{Tick}
 use Rattle.meaning.specs.Positions.{stuck, leave, Positions, at-start, on, go}
-use Rattle.meaning.specs.Table.{Table, Holds, askRow, leaveRow}
+use Rattle.meaning.specs.Table.{Table, Holds}
+use Rattle.meaning.specs.RowWalk.{askRow, leaveRow}
 use Rattle.meaning.proofs.ListLaws.{here, there}
 use Rattle.meaning.proofs.Step.{Solid}
 use Rattle.meaning.proofs.Ends.{AskEnds, LeaveEnds}

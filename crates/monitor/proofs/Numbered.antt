@@ -7,7 +7,8 @@ use native.Mathlib.Omega.{arith}
 use lib.ListN.{length}
 use Rattle.meaning.specs.Lists.{_∈_, total}
 use Rattle.meaning.specs.Answers.{value}
-use Rattle.meaning.specs.Expression.{Letter, Exp, letter, seq, alt, star, pipe, letters, size, renumbered, numberedFrom, Ordered}
+use Rattle.meaning.specs.Expression.{Letter, Exp, letter, seq, alt, star, pipe, letters, size, renumbered, Ordered}
+use Rattle.meaning.specs.Numbered.{numberedFrom}
 use Rattle.meaning.specs.Opening.{Opened}
 use Rattle.meaning.proofs.ListLaws.{no-∈, cons-∈}
 use Rattle.meaning.proofs.Numbering.{renumbered-size, renumbered-ordered, between}

@@ -2,12 +2,12 @@
 -- monitor's own row and first letter are known. So a tick over the watch's numbers is one over the rows of the program. Assumes nothing.
 use mathlib.Core.Path.{_≡_, refl, sym, ap, ap₂, _∙_, subst}
 use mathlib.Core.Bool.{cond}
-use mathlib.Core.List.{List, [], _∷_, map}
-use Prim.Native.Nat.{ℕ, suc, _+_, _<_, _≤_, min}
+use mathlib.Core.List.{List, [], _∷_, _++_, map}
+use Prim.Native.Nat.{ℕ, suc, _+_, _-_, _<_, _≤_, min}
 use native.Mathlib.Omega.{arith}
 use borrow.Author.Tests.{lt-ltb, le-ltb}
-use lib.ListN.{length, length-map, getD, take, replicate}
-use lib.Seq.{sets}
+use lib.ListN.{length, length-map, getD, take, drop, replicate, length-replicate}
+use lib.Seq.{sets, sets-eq}
 use Rattle.meaning.specs.Lists.{_∈_, total}
 use Rattle.meaning.specs.Answers.{value}
 use Rattle.meaning.specs.Expression.{Letter, Exp, letters, size, rows, renumbered}
@@ -29,7 +29,7 @@ use Rattle.monitor.specs.Ticks.{layout, within, lettersEnd}
 use Rattle.monitor.specs.Calls.{layoutOf}
 use Rattle.monitor.proofs.Coded.{Coded}
 use Rattle.monitor.proofs.FewMonitors.{few-monitors}
-use Rattle.monitor.proofs.Stored.{stands-at, stands-self, each-at, stored, taken}
+use Rattle.monitor.proofs.Stored.{stands-at, stands-self, each-at, stored, taken, drop-replicate}
 use Rattle.monitor.proofs.Numbered.{programOf, InOrder, numbered-in-order, total-numbered, length-numbered, watch-numbered, numbers-below}
 use Rattle.monitor.proofs.RowWords.{wordOf, RowFits, Tested, words-laid, words-long, row-word, all-fit, row-coded}
 use Rattle.monitor.proofs.LetterIndex.{LetterStands, all-letters}
@@ -130,6 +130,17 @@ module _ (o : Opened) (c : Counted o) where
   words-right r h =
       ap (λ (v : Watch). getD (v .table) r 0) (watch-numbered o)
       ∙ row-word (programOf o) in-order (omega (arith, program-rows, c .few-rows)) r (omega (arith, program-rows))
+
+  -- The table is the words of meaning's rows, and zeros behind them.
+  pub table-right : watchOf (value o) .table ≡ map wordOf (laidAll 0 (programOf o)) ++ replicate (1024 - o .rowCount) 0
+  table-right =
+      let long : length (map wordOf (laidAll 0 (programOf o))) ≡ o .rowCount = length-map (laidAll 0 (programOf o)) wordOf ∙ rows-no-more 0 (programOf o) ∙ program-rows in
+      ap (λ (v : Watch). v .table) (watch-numbered o)
+      ∙ ap (sets (replicate 1024 0) 0) (words-laid (programOf o) in-order)
+      ∙ sets-eq (map wordOf (laidAll 0 (programOf o))) (replicate 1024 0) 0 (omega (arith, long, c .few-rows, length-replicate {A = ℕ} 1024 0))
+      ∙ ap (λ (z : List ℕ). map wordOf (laidAll 0 (programOf o)) ++ z)
+      (let z : 0 + length (map wordOf (laidAll 0 (programOf o))) ≡ o .rowCount = omega (arith, long) in
+      ap (λ (k : ℕ). drop k (replicate 1024 0)) z ∙ drop-replicate (o .rowCount) 1024 0)
 
   -- all rows point at rows, and letters are as Q says
   pub rows-right : (Q : Letter → Type 0) → ((m : Exp) → m ∈ programOf o → (x : Letter) → x ∈ letters m → Q x) → (r : ℕ) → r < o .rowCount

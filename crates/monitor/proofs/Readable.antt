@@ -8,7 +8,7 @@ use lib.ListN.{length}
 use Rattle.meaning.specs.Lists.{_∈_, only}
 use Rattle.meaning.specs.Answers.{value}
 use Rattle.meaning.specs.Expression.{Letter, Exp, letters, renumbered}
-use Rattle.meaning.specs.Shape.{AllSized, agree, unsatisfiable}
+use Rattle.meaning.specs.ShapeTests.{AllSized, agree, unsatisfiable}
 use Rattle.meaning.specs.Opening.{Opened, asOpened, openText}
 use Rattle.meaning.proofs.ListLaws.{here, ∈-each, ∈-only, none-in}
 use Rattle.meaning.proofs.Accept.{all-passed}

@@ -1,7 +1,7 @@
 -- Lists that are stored in an array stand in it, and what that says of one index. Assumes nothing.
 use mathlib.Core.Path.{_≡_, refl, ap, _∙_, subst}
 use mathlib.Core.List.{List, [], _∷_, _++_, map}
-use Prim.Native.Nat.{ℕ, zero, suc, _+_, _<_, _≤_}
+use Prim.Native.Nat.{ℕ, zero, suc, _+_, _-_, _<_, _≤_}
 use native.Mathlib.Nat.{not-suc-le-zero, le-of-suc-le-suc}
 use native.Mathlib.Omega.{arith}
 use lib.ListN.{length, getD, take, drop, set, length-set, replicate, length-replicate}
@@ -79,3 +79,9 @@ stored-at n xs i h l =
 pub taken : (n k : ℕ) (xs : List ℕ) → length xs ≡ k → k ≤ n → take k (sets (replicate n 0) 0 xs) ≡ xs
 taken n k xs e h =
     ap (take k) (sets-eq xs (replicate n 0) 0 (omega (arith, length-replicate {A = ℕ} n 0))) ∙ take-at xs (drop (0 + length xs) (replicate n 0)) k e
+
+-- equal elements, less the first n
+pub drop-replicate : (n k a : ℕ) → drop n (replicate k a) ≡ replicate (k - n) a
+drop-replicate zero k a = ap (λ (m : ℕ). replicate m a) (let e : k ≡ k - 0 = omega arith in e)
+drop-replicate (suc n) zero a = ap (λ (m : ℕ). replicate m a) (let e : 0 ≡ 0 - suc n = omega arith in e)
+drop-replicate (suc n) (suc k) a = drop-replicate n k a ∙ ap (λ (m : ℕ). replicate m a) (let e : k - n ≡ suc k - suc n = omega arith in e)

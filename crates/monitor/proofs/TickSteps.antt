@@ -18,7 +18,7 @@ use Rattle.monitor.specs.Walk.{Told, told, andThen, askM, leaveM}
 use Rattle.monitor.specs.Ticks.{steps, Layout, layout, letterGoes, lettersGo, startGoes, lettersEnd, monitorGoes, Reached, reached, reachedBy, monitorsGo, marksAfter, writeIf, writeMarked, Move, move, emptyMemory, moveBy, stepWithin, verdictOf}
 use Rattle.rules.specs.declared.Watch.{Watch}
 use Rattle.monitor.specs.Calls.{withState, refusedBy, stateOf, judge, onward, stepFrom, layoutOf, replyOf, watchAfter}
-use Rattle.monitor.specs.Shown.{answerOf}
+use Rattle.monitor.specs.Shown.{shownAnswer}
 use Rattle.monitor.specs.declared.Answer.the-variants.{Ok, Bad, Refused}
 use Rattle.monitor.proofs.LetterSteps.{taken, left}
 
@@ -227,23 +227,23 @@ one-tick v K σ =
 -- ---- calls
 
 module _ (v : Watch) (w n : ℕ) (e : n ≡ refusedBy (v .stopped) (v .ticks) (v .wires) w) where
-  reply-refused : (n ≡ 0 → ⊥) → replyOf v w ≡ refused n
+  reply-refused : (n ≡ 0 → ⊥) → replyOf v w ≡ refused n 0
   unfolding replyOf reply
   reply-refused z = by (v .stopped) (isFull (v .ticks)) (isStray (v .wires) w) e
     where
       by : (a b d : Bool) → n ≡ cond a 16 (cond b 17 (cond d 15 0))
-          → cond a (refused 16) (cond b (refused 17) (cond d (refused 15) (verdictReply (judge v (stateOf v .inner) w)))) ≡ refused n
-      by true b d h = ap refused (sym h)
-      by false true d h = ap refused (sym h)
-      by false false true h = ap refused (sym h)
+          → cond a (refused 16 0) (cond b (refused 17 0) (cond d (refused 15 0) (verdictReply (judge v (stateOf v .inner) w)))) ≡ refused n 0
+      by true b d h = ap (λ (k : ℕ). refused k 0) (sym h)
+      by false true d h = ap (λ (k : ℕ). refused k 0) (sym h)
+      by false false true h = ap (λ (k : ℕ). refused k 0) (sym h)
       by false false false h = absurd (z h)
 
   -- a refusal changes no watch
-  pub call-refused : (n ≡ 0 → ⊥) → (Refused n ≡ answerOf (replyOf v w)) × (v ≡ watchAfter v w)
+  pub call-refused : (n ≡ 0 → ⊥) → (shownAnswer (Refused n) ≡ replyOf v w) × (v ≡ watchAfter v w)
   unfolding watchAfter
   call-refused z =
       let h = sym (reply-refused z) in
-      (ap answerOf h, ap (λ (r : Reply). withState v (after (onward v) (stateOf v) w r)) h)
+      (h, ap (λ (r : Reply). withState v (after (onward v) (stateOf v) w r)) h)
 
   pub few-ticks : n ≡ 0 → v .ticks < 1000000
   few-ticks z = by (v .stopped) (isFull (v .ticks)) refl (isStray (v .wires) w) e
@@ -258,7 +258,7 @@ module _ (v : Watch) (w n : ℕ) (e : n ≡ refusedBy (v .stopped) (v .ticks) (v
   reply-judged z = by (v .stopped) (isFull (v .ticks)) (isStray (v .wires) w) e
     where
       by : (a b d : Bool) → n ≡ cond a 16 (cond b 17 (cond d 15 0))
-          → cond a (refused 16) (cond b (refused 17) (cond d (refused 15) (verdictReply (judge v (stateOf v .inner) w)))) ≡ verdictReply (judge v (stateOf v .inner) w)
+          → cond a (refused 16 0) (cond b (refused 17 0) (cond d (refused 15 0) (verdictReply (judge v (stateOf v .inner) w)))) ≡ verdictReply (judge v (stateOf v .inner) w)
       by true b d h = absurd (let q : 16 ≡ 0 = sym h ∙ z in omega (arith, q))
       by false true d h = absurd (let q : 17 ≡ 0 = sym h ∙ z in omega (arith, q))
       by false false true h = absurd (let q : 15 ≡ 0 = sym h ∙ z in omega (arith, q))
@@ -269,18 +269,18 @@ module _ (v : Watch) (w n : ℕ) (e : n ≡ refusedBy (v .stopped) (v .ticks) (v
     reply-moved = reply-judged z ∙ ap (λ (a : Move). verdictReply (verdictOf (layoutOf v) a)) (sym s)
 
     pub call-bad : i < m → u ≡ withState v (record { inner = stateOf v .inner; oks = v .ticks; stopped = true })
-        → (Bad i ≡ answerOf (replyOf v w)) × (u ≡ watchAfter v w)
+        → (shownAnswer (Bad i) ≡ replyOf v w) × (u ≡ watchAfter v w)
     unfolding watchAfter
     call-bad h q =
         let r = sym (reply-moved ∙ ap verdictReply (taken (ltb i (min (v .monitors) 32)) (broken i) clean (lt-ltb i (min (v .monitors) 32) (omega (arith, l))))) in
-        (ap answerOf r, q ∙ ap (λ (t : Reply). withState v (after (onward v) (stateOf v) w t)) r)
+        (r, q ∙ ap (λ (t : Reply). withState v (after (onward v) (stateOf v) w t)) r)
 
     pub call-ok : m ≤ i → u ≡ withState v (record { inner = record { marks = K; values = σ }; oks = suc (v .ticks); stopped = v .stopped })
-        → (Ok ≡ answerOf (replyOf v w)) × (u ≡ watchAfter v w)
+        → (shownAnswer Ok ≡ replyOf v w) × (u ≡ watchAfter v w)
     unfolding watchAfter
     call-ok h q =
         let r = sym (reply-moved ∙ ap verdictReply (left (ltb i (min (v .monitors) 32)) (broken i) clean (le-ltb i (min (v .monitors) 32) (omega (arith, l))))) in (
-          ap answerOf r,
+          r,
           q ∙ ap (λ (a : Move). withState v (record { inner = record { marks = a .marks; values = a .values }; oks = suc (v .ticks); stopped = v .stopped })) s
               ∙ ap (λ (t : Reply). withState v (after (onward v) (stateOf v) w t)) r,
         )

@@ -16,7 +16,7 @@ ghost use Rattle.meaning.specs.Calls.{isStray};
 ghost use Rattle.monitor.specs.Letters.{given};
 ghost use Rattle.monitor.specs.Ticks.{layout, marksAfter, writeIf, writeMarked, move, stepOf};
 ghost use Rattle.monitor.specs.Calls.{stateOf, withState, refusedBy, replyOf, watchAfter};
-ghost use Rattle.monitor.specs.Shown.{answerOf};
+ghost use Rattle.monitor.specs.Shown.{shownAnswer};
 
 // ---- what a good tick leaves
 
@@ -140,7 +140,7 @@ pub enum Answer {
     Ok,
     // The monitor.
     Bad(usize),
-    // 01's number.
+    // The refusal's number.
     Refused(u8),
 }
 
@@ -199,7 +199,7 @@ fn moved_on(watch: Watch, marks: [u8; 288], values: [u64; 16]) -> Watch
 // A call on a watch with a word: the answer and the new watch. A bad tick leaves the watch stopped and otherwise as before it; a
 // refused call leaves it as it was.
 pub fn tick(watch: Watch, word: u64) -> Ticked
-    ensures { λ r. ⌜ (r .answer ≡ answerOf (replyOf watch word)) × (r .watch ≡ watchAfter watch word) ⌝ }
+    ensures { λ r. ⌜ (shownAnswer (r .answer) ≡ replyOf watch word) × (r .watch ≡ watchAfter watch word) ⌝ }
 {
     let number = refused_by(watch.stopped, watch.ticks, watch.wires, word);
     if number != 0 {

@@ -8,9 +8,9 @@ use lib.ListN.{getD, set}
 use Rattle.meaning.specs.Lists.{each, total}
 use Rattle.meaning.specs.Answers.{Answer, value, refused, letterOf}
 use Rattle.meaning.specs.Expression.{Exp, letters, size, rows, renumbered}
-use Rattle.meaning.specs.Shape.{Shape, accepted, turned-away, shape}
+use Rattle.meaning.specs.ShapeTests.{Shape, accepted, turned-away, shape}
 use Rattle.meaning.specs.Opening.{Opened, asOpened, byShape, misshapen, openProgram}
-use Rattle.meaning.specs.Reading.{Program}
+use Rattle.meaning.specs.Names.{Program}
 use Rattle.meaning.proofs.Numbering.{renumbered-size, renumbered-rows}
 use Rattle.meaning.proofs.RowCount.{rows-bound}
 use Rattle.rules.specs.Reads.{Unless, fine, faulted}

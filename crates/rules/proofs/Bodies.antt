@@ -9,7 +9,8 @@ use lib.ListN.{length, set, length-set}
 use Rattle.lexer.specs.Tokens as token
 use Rattle.lexer.specs.Tokens.{Token, Placed, tokenAt}
 use Rattle.meaning.specs.Expression.{Literal, Exp}
-use Rattle.meaning.specs.Reading.{Names, statement, defineName, aDefine, aProduction, newDefine, newProduction, declare, newLevel, Open, closing, inDefine, literal, literalMore, operand, operandMore, Step, isSign, is, choose, notHere, behindLiteral, behindOperand, step}
+use Rattle.meaning.specs.Reading.{statement, defineName, newLevel, Open, closing, inDefine, literal, literalMore, operand, operandMore, Step, isSign, is, choose, notHere, behindLiteral, behindOperand, step}
+use Rattle.meaning.specs.Names.{Names, aDefine, aProduction, newDefine, newProduction, declare}
 use Rattle.rules.specs.declared.literals.Condition.{Condition}
 use Rattle.rules.specs.declared.literals.Literals.{Literals}
 use Rattle.rules.specs.declared.expression.Parsed.{Parsed}

@@ -12,7 +12,8 @@ use lib.ListN.{length, take, drop, set, length-set, length-append}
 use lib.Seq.{take-suc-set}
 use Rattle.lexer.specs.Bytes.{Entry}
 use Rattle.lexer.specs.Tokens.{Placed}
-use Rattle.meaning.specs.Reading.{Names, Meaning, withName, newInput, newStore, declare, Expect, statement, sign, closing, inputName, inputMore, inputHigh, storeName, storeMore, storeHigh, storeFirst, go, newName, step}
+use Rattle.meaning.specs.Reading.{Expect, statement, sign, closing, inputName, inputMore, inputHigh, storeName, storeMore, storeHigh, storeFirst, go, newName, step}
+use Rattle.meaning.specs.Names.{Names, Meaning, withName, newInput, newStore, declare}
 use Rattle.rules.specs.declared.declarations.Scope.{Scope}
 use Rattle.rules.specs.declared.declarations.Declared.{Declared}
 use Rattle.words.specs.Words.{quad, part0, part1, part2, part3}

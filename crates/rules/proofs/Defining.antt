@@ -5,7 +5,8 @@ use mathlib.Core.List.{List}
 use Prim.Native.Nat.{ℕ, _+_, _-_, _<_, _≤_}
 use native.Mathlib.Omega.{arith}
 use lib.ListN.{length, take, drop}
-use Rattle.meaning.specs.Reading.{Names, Meaning, withName, Declaration, declare, Expect, statement, sign, step}
+use Rattle.meaning.specs.Reading.{Expect, statement, sign, step}
+use Rattle.meaning.specs.Names.{Names, Meaning, withName, Declaration, declare}
 use Rattle.rules.specs.declared.declarations.Scope.{Scope}
 use Rattle.rules.specs.Reads.{readFrom, fine, faulted, Behind}
 use Rattle.rules.specs.Scopes.{Known, Ready, Declares, NameRead}

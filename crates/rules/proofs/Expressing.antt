@@ -10,7 +10,8 @@ use lib.ListN.{length}
 use Rattle.lexer.specs.Tokens.{tokenAt}
 use Rattle.meaning.specs.Expression.{Exp}
 use Rattle.meaning.specs.Answers.{Answer}
-use Rattle.meaning.specs.Reading.{Names, Open, Level, newLevel, onLevel, whole, operand, operandMore, Program, step, is}
+use Rattle.meaning.specs.Reading.{Open, Level, newLevel, onLevel, whole, operand, operandMore, step, is}
+use Rattle.meaning.specs.Names.{Names, Program}
 use Rattle.rules.specs.declared.tokens.Seen.{Seen}
 use Rattle.rules.specs.declared.parts.Part.{Part}
 use Rattle.rules.specs.declared.expression.Parsed.{Parsed}

@@ -6,7 +6,7 @@ use native.Mathlib.Omega.{arith}
 use lib.ListN.{length, take, drop}
 use Rattle.lexer.specs.Bytes.{Entry}
 use Rattle.meaning.specs.Expression.{Literal, Exp, letter, seq, alt, star, pipe}
-use Rattle.meaning.specs.Reading.{Meaning, anInput, aStore, aDefine, aProduction}
+use Rattle.meaning.specs.Names.{Meaning, anInput, aStore, aDefine, aProduction}
 use Rattle.words.specs.Words.{part0, part1, part2, part3}
 use Rattle.rules.specs.Cells.{at, Link, LinkAt, Links, testsOn, writesOn, Node, Denotes, Means, Cells}
 use Rattle.rules.specs.Conditions.{Extends, TestsAre}

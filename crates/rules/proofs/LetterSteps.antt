@@ -8,13 +8,14 @@ use mathlib.Core.List.{List, []}
 use Prim.Native.Nat.{ℕ, _+_, _*_, _<_, _≤_}
 use native.Mathlib.Omega.{arith}
 use lib.ListN.{length}
-use Rattle.meaning.specs.Expression.{Literal, Exp}
+use Rattle.meaning.specs.Expression.{Literal, Exp, aLetter, storeTests}
 use Rattle.lexer.specs.Bytes.{lookup}
 use Rattle.meaning.specs.Masks.{look, want}
-use Rattle.meaning.specs.Shape.{agree}
+use Rattle.meaning.specs.ShapeTests.{agree}
 use Rattle.meaning.proofs.ListLaws.{no-∈}
 use Rattle.meaning.specs.Answers.{Answer, refused, byte}
-use Rattle.meaning.specs.Reading.{Meaning, anInput, aStore, aDefine, aProduction, byKind, known, noExp, fault, literalName, negated, operand, Names, Open, inLetter, Program, Step, go, step, is, choose, behindLiteral, literalMore, writeStore, operandMore, aLetter, storeTests}
+use Rattle.meaning.specs.Reading.{byKind, known, noExp, fault, literalName, negated, operand, Open, inLetter, Step, go, step, is, choose, behindLiteral, literalMore, writeStore, operandMore}
+use Rattle.meaning.specs.Names.{Meaning, anInput, aStore, aDefine, aProduction, Names, Program}
 use Rattle.rules.specs.declared.tokens.Seen.{Seen}
 use Rattle.rules.specs.declared.literals.Condition.{Condition}
 use Rattle.rules.specs.declared.expression.Parsed.{Parsed}

@@ -11,10 +11,12 @@ use lib.Pow.{pow-pos}
 use lib.ListN.{length}
 use Rattle.lexer.specs.Bytes.{lookup}
 use Rattle.lexer.specs.Tokens.{Placed}
-use Rattle.meaning.specs.Expression.{Literal, wire, wire-store, store, Exp}
-use Rattle.meaning.specs.Shape.{agree}
-use Rattle.meaning.specs.Answers.{refused, byte, crowded}
-use Rattle.meaning.specs.Reading.{Names, Meaning, anInput, aStore, aDefine, aProduction, Context, inDefine, inLetter, sign, bitIndex, storeEquals, wireEquals, wireMore, negated, literal, literalName, behindLiteral, ifNumber, literalMore, storeTests, tooMany, withLiteral, Step, step, go, fault, known, byKind, choose, unless, atToken, noPair, noLiterals, noExp}
+use Rattle.meaning.specs.Expression.{Literal, wire, wire-store, store, Exp, storeTests}
+use Rattle.meaning.specs.ShapeTests.{agree}
+use Rattle.meaning.specs.Answers.{refused, byte}
+use Rattle.refusals.specs.Numbers.{crowded}
+use Rattle.meaning.specs.Reading.{Context, inDefine, inLetter, sign, bitIndex, storeEquals, wireEquals, wireMore, negated, literal, literalName, behindLiteral, ifNumber, literalMore, tooMany, withLiteral, Step, step, go, fault, known, byKind, choose, unless, atToken, noPair, noLiterals, noExp}
+use Rattle.meaning.specs.Names.{Names, Meaning, anInput, aStore, aDefine, aProduction}
 use Rattle.meaning.proofs.Within.{count-append}
 use Rattle.rules.specs.declared.literals.Condition.{Condition}
 use Rattle.rules.specs.declared.literals.Literals.{Literals}

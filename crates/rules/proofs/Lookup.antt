@@ -7,7 +7,7 @@ use Prim.Native.Nat.{ℕ, _+_, _-_, _<_, _≤_}
 use native.Mathlib.Omega.{arith}
 use lib.ListN.{length, take, drop}
 use Rattle.lexer.specs.Bytes.{Entry, lookup, same}
-use Rattle.meaning.specs.Reading.{Meaning}
+use Rattle.meaning.specs.Names.{Meaning}
 use Rattle.words.specs.Words.{part1, part2, part3}
 use Rattle.rules.specs.Cells.{at, Spelled, Means, Cells, Declared, Found, Finds}
 

@@ -9,7 +9,8 @@ use lib.ListN.{length, set}
 use Rattle.lexer.specs.Tokens.{Token, Placed}
 use Rattle.meaning.specs.Expression.{Exp, Literal}
 use Rattle.meaning.specs.Answers.{value}
-use Rattle.meaning.specs.Reading.{Names, aProduction, byKind, Step, finished, fault, notHere, known, noPair, noLiterals, monitorName, monitorMore, textEnd, programOf, atEnd, step}
+use Rattle.meaning.specs.Reading.{byKind, Step, finished, fault, notHere, known, noPair, noLiterals, monitorName, monitorMore, textEnd, atEnd, step}
+use Rattle.meaning.specs.Names.{Names, aProduction, programOf}
 use Rattle.rules.specs.declared.tokens.Seen.{Seen}
 use Rattle.rules.specs.Seen.{seen, Sees, tokenOf}
 use Rattle.rules.specs.Cells.{ProductionAt, Cells, Declared}

@@ -12,8 +12,10 @@ use Rattle.lexer.specs.Bytes.{lookup}
 use Rattle.lexer.specs.Tokens as token
 use Rattle.lexer.specs.Tokens.{Placed, tokenAt}
 use Rattle.lexer.proofs.Sized.{Lies, lies}
-use Rattle.meaning.specs.Answers.{refused, byte, twice, oversize, crowded}
-use Rattle.meaning.specs.Reading.{Names, Expect, Step, isKnown, unless, onName, ifName, newName, step, andThen}
+use Rattle.meaning.specs.Answers.{refused, byte}
+use Rattle.refusals.specs.Numbers.{twice, oversize, crowded}
+use Rattle.meaning.specs.Reading.{Expect, Step, isKnown, unless, onName, ifName, newName, step, andThen}
+use Rattle.meaning.specs.Names.{Names}
 use Rattle.rules.specs.declared.declarations.Scope.{Scope}
 use Rattle.rules.specs.declared.tokens.Seen.{Seen}
 use Rattle.rules.specs.Seen.{Sees}

@@ -6,8 +6,10 @@ use mathlib.Core.Logic.{⊎-elim}
 use Prim.Native.Nat.{ℕ, _<_, _≤_}
 use Rattle.lexer.specs.Tokens as token
 use Rattle.lexer.specs.Tokens.{Placed, tokenAt}
-use Rattle.meaning.specs.Answers.{refused, byte, oversize}
-use Rattle.meaning.specs.Reading.{Names, Expect, Step, fault, choose, unless, atToken, ifNumber, onNumber, step, andThen}
+use Rattle.meaning.specs.Answers.{refused, byte}
+use Rattle.refusals.specs.Numbers.{oversize}
+use Rattle.meaning.specs.Reading.{Expect, Step, fault, choose, unless, atToken, ifNumber, onNumber, step, andThen}
+use Rattle.meaning.specs.Names.{Names}
 use Rattle.meaning.proofs.Stops.{read-from}
 use Rattle.rules.specs.Reads.{readFrom, Past, placed, NumberRead}
 use Rattle.rules.proofs.Stepping.{well, ill}

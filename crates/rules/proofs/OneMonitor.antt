@@ -10,7 +10,8 @@ use lib.ListN.{length}
 use lib.Seq.{length-sets}
 use Rattle.meaning.specs.Lists.{_∈_}
 use Rattle.meaning.specs.Expression.{Letter, Exp, letter, seq, alt, star, pipe, letters, size, rows, renumbered}
-use Rattle.meaning.specs.Shape.{nullable, shape, AllSized, SizedLetters}
+use Rattle.meaning.specs.Shape.{nullable}
+use Rattle.meaning.specs.ShapeTests.{shape, AllSized, SizedLetters}
 use Rattle.meaning.specs.Summary.{impossibleAt, unlessNullable, hollowAt, turnedAt}
 use Rattle.meaning.proofs.ListLaws.{append-∈, ∈-left, ∈-right, one-∈, here}
 use Rattle.meaning.proofs.Numbering.{renumbered-ordered, renumbered-size, renumbered-rows}
@@ -34,19 +35,19 @@ use Rattle.rules.proofs.TableRows.{numbered-at}
 -- ---- rules 11 and 12, asked of rows that were laid
 
 module _ (P : List ℕ) (node row index : ℕ) (T T′ : List ℕ) (L L′ : LetterLists) (r l : ℕ) (a : Lays P node row index row T T′ L L′ r l) (j : Judged)
-    (q : j ≡ judgeOf (kinds T′) (lefts T′) (rights T′) (L′ .look) (L′ .want) row index l) where
+    (q : shownJudged j ≡ judgeOf (kinds T′) (lefts T′) (rights T′) (L′ .look) (L′ .want) row index l) where
   -- whatever expression stands there
   abbrev Rules : (f n : ℕ) → Type 0
   Rules f n = (c : ℕ) → (e : Exp) → ExpAt P c node row index e → Ruled row index e T T′ L L′ f n r l
 
   pub ruled-fine : j ≡ Fine → Rules 0 0
-  ruled-fine z c e s = record { stored = a c e s; answers = fine refl (ap shownJudged (sym q ∙ z)) }
+  ruled-fine z c e s = record { stored = a c e s; answers = fine refl (sym q ∙ ap shownJudged z) }
 
   pub ruled-open : (n : ℕ) → j ≡ OpenEnd n → Rules 11 n
-  ruled-open n z c e s = record { stored = a c e s; answers = faulted (λ h. omega arith) (ap shownJudged (sym q ∙ z)) }
+  ruled-open n z c e s = record { stored = a c e s; answers = faulted (λ h. omega arith) (sym q ∙ ap shownJudged z) }
 
   pub ruled-fork : (n : ℕ) → j ≡ Fork n → Rules 12 n
-  ruled-fork n z c e s = record { stored = a c e s; answers = faulted (λ h. omega arith) (ap shownJudged (sym q ∙ z)) }
+  ruled-fork n z c e s = record { stored = a c e s; answers = faulted (λ h. omega arith) (sym q ∙ ap shownJudged z) }
 
 -- ---- what is stored keeps the arrays' lengths
 
@@ -177,7 +178,7 @@ module _ (P : List ℕ) (cell row index : ℕ) where
                   (sized-numbered 0 m (w .production .sized)) (possible m (is-possible c m w)) (omega arith) in
                   record {
                     answers = subst (Answers f n)
-                        (ap (λ (z : ℕ). shownJudged (judgeOf (kinds T′) (lefts T′) (rights T′) (L′ .look) (L′ .want) row index z)) (t .stored .next-letter)
+                        (ap (λ (z : ℕ). judgeOf (kinds T′) (lefts T′) (rights T′) (L′ .look) (L′ .want) row index z) (t .stored .next-letter)
                         ∙ right ∙ sym (at-ten c m w none (solid c m w)))
                         (t .answers);
                     stored = λ z. a c m s .stored;

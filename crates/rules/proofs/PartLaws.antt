@@ -9,11 +9,12 @@ use native.Mathlib.Omega.{arith}
 use borrow.Author.Tests.{eq-eqb, ne-eqb}
 use lib.Dec.{eqb}
 use lib.ListN.{length, set, length-set}
-use Rattle.meaning.specs.Expression.{Letter, Exp, letter, seq, alt, star, pipe, letters, size}
-use Rattle.meaning.specs.Shape.{nullable, AllSized, SizedLetters}
+use Rattle.meaning.specs.Expression.{Letter, Exp, letter, seq, alt, star, pipe, letters, size, aLetter}
+use Rattle.meaning.specs.Shape.{nullable}
+use Rattle.meaning.specs.ShapeTests.{AllSized, SizedLetters}
 use Rattle.meaning.specs.Masks.{look, want}
 use Rattle.meaning.specs.Summary.{impossibleAt, hollowAt}
-use Rattle.meaning.specs.Reading.{join, aLetter}
+use Rattle.meaning.specs.Reading.{join}
 use Rattle.meaning.proofs.ListLaws.{append-∈, one-∈}
 use Rattle.rules.specs.declared.literals.Condition.{Condition}
 use Rattle.rules.specs.declared.parts.Part.{Part}

@@ -8,7 +8,8 @@ use lib.ListN.{length}
 use Rattle.lexer.specs.Bytes.{lookup}
 use Rattle.lexer.specs.Tokens.{Placed}
 use Rattle.meaning.specs.Expression.{Literal, Exp}
-use Rattle.meaning.specs.Reading.{Names, Meaning, anInput, aStore, aDefine, aProduction, Step, fault, known, onName, ifName, byKind, atToken}
+use Rattle.meaning.specs.Reading.{Step, fault, known, onName, ifName, byKind, atToken}
+use Rattle.meaning.specs.Names.{Names, Meaning, anInput, aStore, aDefine, aProduction}
 use Rattle.rules.specs.declared.tokens.Seen.{Seen}
 use Rattle.rules.specs.Seen.{seen, Sees}
 use Rattle.words.specs.Words.{part0}

@@ -7,7 +7,8 @@ use lib.ListN.{length}
 use Rattle.lexer.specs.Tokens as token
 use Rattle.lexer.specs.Tokens.{Token, Placed, tokenAt}
 use Rattle.meaning.specs.Answers.{refused, byte}
-use Rattle.meaning.specs.Reading.{Names, noNames, statement, monitorName, go, notHere, behindWord, begin, step}
+use Rattle.meaning.specs.Reading.{statement, monitorName, go, notHere, behindWord, begin, step}
+use Rattle.meaning.specs.Names.{Names, noNames}
 use Rattle.rules.specs.declared.declarations.Scope.{Scope}
 use Rattle.rules.specs.declared.declarations.Declared.{Declared}
 use Rattle.rules.specs.declared.tokens.Seen.{Seen}

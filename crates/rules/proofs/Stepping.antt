@@ -12,7 +12,8 @@ use Rattle.lexer.specs.Tokens as token
 use Rattle.lexer.specs.Tokens.{Token, Placed, goesOn, tokenAt}
 use Rattle.lexer.proofs.Sized.{lies}
 use Rattle.meaning.specs.Answers.{refused}
-use Rattle.meaning.specs.Reading.{Names, Expect, sign, nought, Step, go, fault, isSign, is, choose, unless, atToken, numberOf, notHere, ifName, onName, ifNumber, onNumber, step, andThen}
+use Rattle.meaning.specs.Reading.{Expect, sign, nought, Step, go, fault, isSign, is, choose, unless, atToken, numberOf, notHere, ifName, onName, ifNumber, onNumber, step, andThen}
+use Rattle.meaning.specs.Names.{Names}
 use Rattle.meaning.proofs.Stops.{read-from}
 use Rattle.rules.specs.declared.tokens.Seen.{Seen}
 use Rattle.rules.specs.Seen.{tokenOf, faultOf, seen, Sees}

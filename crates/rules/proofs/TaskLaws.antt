@@ -5,7 +5,8 @@ use Prim.Native.Nat.{ℕ, _≤_}
 use native.Mathlib.Omega.{arith}
 use lib.ListN.{length}
 use Rattle.meaning.specs.Answers.{Answer}
-use Rattle.meaning.specs.Reading.{Names, Expect, Program}
+use Rattle.meaning.specs.Reading.{Expect}
+use Rattle.meaning.specs.Names.{Names, Program}
 use Rattle.rules.specs.Cells.{Cells}
 use Rattle.rules.specs.Reads.{readFrom, Unless, fine, faulted}
 use Rattle.rules.specs.Conditions.{Extends, Room, Spent}

@@ -8,10 +8,9 @@ use native.Mathlib.Omega.{arith}
 use lib.Dec.{eqb}
 use lib.Bits.{bitAnd, bitOr, bitXor, or-zero-r, and-zero-r}
 use lib.ListN.{length}
-use Rattle.meaning.specs.Expression.{Literal, wire, wire-store, store}
-use Rattle.meaning.specs.Shape.{agree, AllSized, Sized}
+use Rattle.meaning.specs.Expression.{Literal, wire, wire-store, store, storeTests}
+use Rattle.meaning.specs.ShapeTests.{agree, AllSized, Sized}
 use Rattle.meaning.specs.Masks.{look, want, compatible, passes}
-use Rattle.meaning.specs.Reading.{storeTests}
 use Rattle.meaning.proofs.ListLaws.{cons-∈, no-∈}
 use Rattle.meaning.proofs.Within.{count-append}
 use Rattle.meaning.proofs.Masks.{look-append, want-append, sized-append, agree-append, agree-one}

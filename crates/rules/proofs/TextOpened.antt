@@ -10,8 +10,9 @@ use lib.Seq.{sets}
 use Rattle.lexer.specs.Tokens.{tokens}
 use Rattle.meaning.specs.Answers as meaning
 use Rattle.meaning.specs.Expression.{Exp, rows, renumbered}
-use Rattle.meaning.specs.Reading.{noNames, statement, readOn, read}
-use Rattle.meaning.specs.Opening.{Opened, asOpened, openProgram, andOpen, openText}
+use Rattle.meaning.specs.Reading.{statement, readOn, read}
+use Rattle.meaning.specs.Names.{noNames}
+use Rattle.meaning.specs.Opening.{Opened, countsOf, asOpened, openProgram, andOpen, openText}
 use Rattle.meaning.proofs.Openings.{rows-fit}
 use Rattle.shape.specs.Walk.{kinds}
 use Rattle.rules.specs.declared.Watch.{Watch}
@@ -21,23 +22,23 @@ use Rattle.rules.specs.declared.opening.Opening.{Opening}
 use Rattle.rules.specs.Reads.{Unless}
 use Rattle.rules.specs.Monitors.{MonitorsAre, SomeMonitors, Arrays, Lists, withMonitors, AllStored, OpenedBy, byRules}
 use Rattle.rules.specs.Statements.{Says, TextRead}
-use Rattle.rules.specs.Watches.{noLists, lettersFrom, watchBy, watchOf, outcomeOf}
+use Rattle.rules.specs.Watches.{noLists, lettersFrom, watchBy, watchOf, shownOutcome}
 use Rattle.rules.proofs.Stepping.{well, ill}
 use Rattle.rules.proofs.AllMonitors.{program-opened}
 use Rattle.rules.proofs.Starting.{tables-renumbered}
 
 -- the answer and the watch are those of what opening the text comes to
 pub record Right (text : List ℕ) (o : Outcome) (w : Watch) : Type 0 where
-  pub outcome : o ≡ outcomeOf (openText text)
+  pub outcome : shownOutcome o ≡ countsOf (openText text)
   pub watch : w ≡ watchOf (openText text)
 
-by-answer : (text : List ℕ) (a : meaning.Answer Opened) → openText text ≡ a → (o : Outcome) (w : Watch) → o ≡ outcomeOf a → w ≡ watchOf a → Right text o w
-by-answer text a e o w p q = record { outcome = p ∙ ap outcomeOf (sym e); watch = q ∙ ap watchOf (sym e) }
+by-answer : (text : List ℕ) (a : meaning.Answer Opened) → openText text ≡ a → (o : Outcome) (w : Watch) → shownOutcome o ≡ countsOf a → w ≡ watchOf a → Right text o w
+by-answer text a e o w p q = record { outcome = p ∙ ap countsOf (sym e); watch = q ∙ ap watchOf (sym e) }
 
 -- an overlong text
 pub right-long : (text : List ℕ) → 16384 < length text → (o : Outcome) (w : Watch) → o ≡ AtByte 1 0 → w ≡ watchBy noLists 0 0 0 0 [] → Right text o w
-unfolding openText read outcomeOf watchOf
-right-long text l o w p q = by-answer text (meaning.refused 1 (meaning.byte 0)) (ap (λ (b : Bool). andOpen (cond b (meaning.refused 1 (meaning.byte 0)) (readOn noNames statement (tokens text)))) (lt-ltb 16384 (length text) l)) o w p q
+unfolding openText read watchOf countsOf
+right-long text l o w p q = by-answer text (meaning.refused 1 (meaning.byte 0)) (ap (λ (b : Bool). andOpen (cond b (meaning.refused 1 (meaning.byte 0)) (readOn noNames statement (tokens text)))) (lt-ltb 16384 (length text) l)) o w (ap shownOutcome p) q
 
 -- a watch by its parts
 raw : Lists → (rows letters monitors wires stores : ℕ) → (kept marks places : List ℕ) → Watch
@@ -75,8 +76,8 @@ module _ (text : List ℕ) (short : length text ≤ 16384) (f pos free wires sto
   opens = ap (λ (b : Bool). andOpen (cond b (meaning.refused 1 (meaning.byte 0)) (readOn noNames statement (tokens text)))) (le-ltb 16384 (length text) short)
 
   pub right-byte : (f ≡ 0 → ⊥) → (o : Outcome) (w : Watch) → o ≡ AtByte f pos → w ≡ watchBy noLists 0 0 0 0 [] → Right text o w
-  unfolding TextRead outcomeOf watchOf
-  right-byte n o w p q = by-answer text (meaning.refused f (meaning.byte pos)) (opens ∙ ap andOpen (ill t n)) o w p q
+  unfolding TextRead watchOf countsOf
+  right-byte n o w p q = by-answer text (meaning.refused f (meaning.byte pos)) (opens ∙ ap andOpen (ill t n)) o w (ap shownOutcome p) q
 
   module _ (z : f ≡ 0) where
     pub says : Says text free wires stores count Q S M
@@ -98,9 +99,9 @@ module _ (text : List ℕ) (short : length text ≤ 16384) (f pos free wires sto
       opened = program-opened (says .program) noLists A r (by free (says .program .monitors) (says .monitors))
 
       pub right-letter : (r .fault ≡ 0 → ⊥) → (o : Outcome) (w : Watch) → o ≡ AtLetter (r .fault) (r .monitor) (r .letter) → w ≡ watchBy noLists 0 0 0 0 [] → Right text o w
-      unfolding outcomeOf watchOf
+      unfolding watchOf countsOf
       right-letter n o w p q =
-          by-answer text (meaning.refused (r .fault) (meaning.letterOf (r .monitor) (r .letter))) (opens ∙ ap andOpen (says .reads) ∙ ill opened n) o w p q
+          by-answer text (meaning.refused (r .fault) (meaning.letterOf (r .monitor) (r .letter))) (opens ∙ ap andOpen (says .reads) ∙ ill opened n) o w (ap shownOutcome p) q
 
       pub rows-room : r .fault ≡ 0 → r .rows ≤ 1024
       unfolding asOpened
@@ -129,13 +130,13 @@ module _ (text : List ℕ) (short : length text ≤ 16384) (f pos free wires sto
             ticks = 0;
             stopped = false;
           })
-      unfolding outcomeOf watchOf asOpened raw
+      unfolding watchOf countsOf asOpened raw
       right-open y kept marks places k m x =
           let (e, s) = well opened y in
           let p = says .program in
           let n : count ≡ length (map (renumbered 0) (p .monitors)) = says .monitors .number ∙ sym (length-map (p .monitors) (renumbered 0)) in
           by-answer text (meaning.value (asOpened p)) (opens ∙ ap andOpen (says .reads) ∙ e) _ _
-          (ap₂ Open (s .row-count) (s .letter-count))
+          (ap₂ (λ (a b : ℕ). shownOutcome (Open a b)) (s .row-count) (s .letter-count))
           (same-watch A (withMonitors noLists 0 0 0 (map (renumbered 0) (p .monitors))) (r .rows) _ (r .letters) _ count _ wires _ stores kept marks places (p .initial)
           (s .tables ∙ sym (tables-renumbered noLists 0 0 0 (p .monitors))) (s .row-count) (s .letter-count) n (says .width) (says .number)
           (k ∙ ap (sets (replicate 16 0) 0) (says .values)) (m ∙ ap (λ (q : ℕ). sets (replicate 288 0) 256 (replicate q 1)) n) x)

@@ -9,7 +9,8 @@ use lib.ListN.{length}
 use Rattle.lexer.specs.Tokens.{tokenAt}
 use Rattle.meaning.specs.Expression.{Exp, star}
 use Rattle.meaning.specs.Answers.{refused, byte}
-use Rattle.meaning.specs.Reading.{Names, Open, Level, newLevel, onLevel, isNone, sequenced, whole, behindAt, behindComma, behindBars, operand, operandMore, go, fault, step, is, choose, notHere, behindOperand, onRightParen, onSemicolon}
+use Rattle.meaning.specs.Reading.{Open, Level, newLevel, onLevel, isNone, sequenced, whole, behindAt, behindComma, behindBars, operand, operandMore, go, fault, step, is, choose, notHere, behindOperand, onRightParen, onSemicolon}
+use Rattle.meaning.specs.Names.{Names}
 use Rattle.rules.specs.declared.tokens.Seen.{Seen}
 use Rattle.rules.specs.declared.parts.Part.{Part}
 use Rattle.rules.specs.declared.expression.Parsed.{Parsed}

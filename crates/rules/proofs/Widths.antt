@@ -4,7 +4,8 @@ use mathlib.Core.List.{List}
 use Prim.Native.Nat.{ℕ, suc, _+_, _-_, _<_, _≤_}
 use native.Mathlib.Omega.{arith}
 use Rattle.lexer.specs.Tokens.{Placed}
-use Rattle.meaning.specs.Reading.{Names, Expect, sign, toZero, go, is, choose, notHere, step}
+use Rattle.meaning.specs.Reading.{Expect, sign, toZero, go, is, choose, notHere, step}
+use Rattle.meaning.specs.Names.{Names}
 use Rattle.rules.specs.declared.tokens.Seen.{Seen}
 use Rattle.rules.specs.Seen.{Sees}
 use Rattle.rules.specs.Reads.{readFrom, fine, faulted, Behind, NumberRead}

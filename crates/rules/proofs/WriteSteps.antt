@@ -11,7 +11,8 @@ use lib.Pow.{pow-pos}
 use lib.ListN.{length, length-append}
 use Rattle.meaning.specs.Expression.{Write, from-wire, from-number}
 use Rattle.meaning.specs.Answers.{Answer, refused, byte}
-use Rattle.meaning.specs.Reading.{Names, Expect, Program, go, fault, sign, step, choose, unless, atToken, ifNumber, writeStore, writeValue, writeMore}
+use Rattle.meaning.specs.Reading.{Expect, go, fault, sign, step, choose, unless, atToken, ifNumber, writeStore, writeValue, writeMore}
+use Rattle.meaning.specs.Names.{Names, Program}
 use Rattle.rules.specs.declared.tokens.Seen.{Seen}
 use Rattle.rules.specs.Seen.{seen, Sees}
 use Rattle.words.specs.Words.{part0, part1}

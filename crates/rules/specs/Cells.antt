@@ -7,11 +7,12 @@ use mathlib.Core.Path.{_≡_}
 use Prim.Native.Nat.{ℕ, _+_, _<_, _≤_, min}
 use lib.ListN.{length, getD, take, drop}
 use Rattle.lexer.specs.Bytes.{Entry, lookup}
-use Rattle.meaning.specs.Expression.{Literal, wire, wire-store, store, Write, from-wire, from-number, Exp, letter, seq, alt, star, pipe, size}
-use Rattle.meaning.specs.Shape.{nullable, agree, AllSized, SizedLetters}
+use Rattle.meaning.specs.Expression.{Literal, wire, wire-store, store, Write, from-wire, from-number, Exp, letter, seq, alt, star, pipe, size, storeTests}
+use Rattle.meaning.specs.Shape.{nullable}
+use Rattle.meaning.specs.ShapeTests.{agree, AllSized, SizedLetters}
 use Rattle.meaning.specs.Masks.{look, want}
 use Rattle.meaning.specs.Summary.{counted, impossibleAt, hollowAt}
-use Rattle.meaning.specs.Reading.{Meaning, anInput, aStore, aDefine, aProduction, storeTests}
+use Rattle.meaning.specs.Names.{Meaning, anInput, aStore, aDefine, aProduction}
 use Rattle.words.specs.Words.{part0, part1, part2, part3}
 
 -- the word at an index

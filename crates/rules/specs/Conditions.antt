@@ -7,11 +7,13 @@ use lib.Dec.{eqb}
 use lib.Bits.{bitOr}
 use lib.ListN.{length}
 use Rattle.lexer.specs.Tokens.{tokenAt}
-use Rattle.meaning.specs.Expression.{Literal, wire-store}
-use Rattle.meaning.specs.Shape.{agree, AllSized}
+use Rattle.meaning.specs.Expression.{Literal, wire-store, storeTests}
+use Rattle.meaning.specs.ShapeTests.{agree, AllSized}
 use Rattle.meaning.specs.Masks.{look, want, compatible}
-use Rattle.meaning.specs.Answers.{Answer, refused, byte, oversize, crowded}
-use Rattle.meaning.specs.Reading.{Names, Context, inDefine, inLetter, literalMore, storeTests, sign, storeEquals, Program, Step, go, is, andThen, literalName, known, unless, noPair, noLiterals, noExp, tooMany, withLiteral}
+use Rattle.meaning.specs.Answers.{Answer, refused, byte}
+use Rattle.refusals.specs.Numbers.{oversize, crowded}
+use Rattle.meaning.specs.Reading.{Context, inDefine, inLetter, literalMore, sign, storeEquals, Step, go, is, andThen, literalName, known, unless, noPair, noLiterals, noExp, tooMany, withLiteral}
+use Rattle.meaning.specs.Names.{Names, Program}
 use Rattle.rules.specs.declared.literals.Condition.{Condition}
 use Rattle.rules.specs.declared.literals.Literals.{Literals}
 use Rattle.rules.specs.Cells.{at, Link, LinkAt, Links, testsOn, Cells}

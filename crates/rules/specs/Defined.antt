@@ -6,7 +6,8 @@ use Prim.Native.Nat.{ℕ, _+_, _<_, _≤_}
 use lib.ListN.{length, take, drop}
 use Rattle.lexer.specs.Tokens.{tokenAt}
 use Rattle.meaning.specs.Answers.{refused, byte}
-use Rattle.meaning.specs.Reading.{Meaning, Names, Declaration, Expect, sign, closing, go, newName, step}
+use Rattle.meaning.specs.Reading.{Expect, sign, closing, go, newName, step}
+use Rattle.meaning.specs.Names.{Meaning, Names, Declaration}
 use Rattle.rules.specs.declared.declarations.Scope.{Scope}
 use Rattle.words.specs.Words.{part1, part2, part3}
 use Rattle.rules.specs.Cells.{at, Means}

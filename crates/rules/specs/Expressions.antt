@@ -7,7 +7,8 @@ use lib.ListN.{length}
 use Rattle.lexer.specs.Tokens.{tokenAt}
 use Rattle.meaning.specs.Expression.{Literal, Exp}
 use Rattle.meaning.specs.Answers.{Answer, refused, byte}
-use Rattle.meaning.specs.Reading.{Names, Open, Level, newLevel, whole, Expect, operand, operandMore, literal, literalMore, inLetter, Program, step, is, onLevel}
+use Rattle.meaning.specs.Reading.{Open, Level, newLevel, whole, Expect, operand, operandMore, literal, literalMore, inLetter, step, is, onLevel}
+use Rattle.meaning.specs.Names.{Names, Program}
 use Rattle.rules.specs.declared.tokens.Seen.{Seen}
 use Rattle.rules.specs.declared.literals.Condition.{Condition}
 use Rattle.rules.specs.declared.expression.Parsed.{Parsed}

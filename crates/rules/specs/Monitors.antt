@@ -8,10 +8,10 @@ use lib.Seq.{sets}
 use Rattle.meaning.specs.Lists.{each, total}
 use Rattle.meaning.specs.Answers.{Answer, refused, letterOf}
 use Rattle.meaning.specs.Expression.{Exp, letters, size, rows, renumbered}
-use Rattle.meaning.specs.Shape.{Shape, accepted, turned-away, shape}
+use Rattle.meaning.specs.ShapeTests.{Shape, accepted, turned-away, shape}
 use Rattle.meaning.specs.Opening.{Opened, tooLong, misshapen}
 use Rattle.shape.specs.Walk.{kinds, lefts, rights}
-use Rattle.shape.specs.Judge.{judgeOf, shownJudged}
+use Rattle.shape.specs.Judge.{judgeOf}
 use Rattle.rules.specs.Cells.{ProductionAt}
 use Rattle.rules.specs.Reads.{Unless}
 use Rattle.rules.specs.Laying.{RowCode, rowCodes, withRows, LetterLists, withLetters, Stored}
@@ -70,7 +70,7 @@ Answers f n s = Unless f (s ≡ accepted) (s ≡ turned-away f n)
 -- it is stored, and rules 11 and 12 are asked of its rows
 pub record Ruled (row index : ℕ) (e : Exp) (T T′ : List ℕ) (L L′ : LetterLists) (f n r l : ℕ) : Type 0 where
   pub stored : Stored row row index e T T′ L L′ r l
-  pub answers : Answers f n (shownJudged (judgeOf (kinds T′) (lefts T′) (rights T′) (L′ .look) (L′ .want) row index l))
+  pub answers : Answers f n (judgeOf (kinds T′) (lefts T′) (rights T′) (L′ .look) (L′ .want) row index l)
 
 -- rules 9 to 12, and what is stored where they are kept
 pub record Opens (row index : ℕ) (m : Exp) (T T′ : List ℕ) (L L′ : LetterLists) (f n r l : ℕ) : Type 0 where

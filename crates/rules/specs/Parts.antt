@@ -6,10 +6,11 @@ use mathlib.Core.Option.{Option, none, some}
 use mathlib.Core.Path.{_≡_}
 use Prim.Native.Nat.{ℕ, _+_, _<_, _≤_}
 use lib.Dec.{eqb}
-use Rattle.meaning.specs.Expression.{Literal, Write, Exp, seq, alt, star, pipe, size}
-use Rattle.meaning.specs.Shape.{nullable, SizedLetters}
+use Rattle.meaning.specs.Expression.{Literal, Write, Exp, seq, alt, star, pipe, size, aLetter, storeTests}
+use Rattle.meaning.specs.Shape.{nullable}
+use Rattle.meaning.specs.ShapeTests.{SizedLetters}
 use Rattle.meaning.specs.Summary.{counted, orLater, impossibleAt, hollowAt}
-use Rattle.meaning.specs.Reading.{join, aLetter, storeTests}
+use Rattle.meaning.specs.Reading.{join}
 use Rattle.rules.specs.declared.literals.Condition.{Condition}
 use Rattle.rules.specs.declared.parts.Part.{Part}
 use Rattle.rules.specs.Cells.{coded, Denotes}

@@ -7,7 +7,8 @@ use lib.ListN.{take, drop}
 use Rattle.lexer.specs.Bytes.{lookup}
 use Rattle.lexer.specs.Tokens.{Placed}
 use Rattle.meaning.specs.Expression.{Literal, Exp}
-use Rattle.meaning.specs.Reading.{Names, Meaning, anInput, aStore, aDefine, aProduction, Step, fault, known, noPair, noLiterals, noExp}
+use Rattle.meaning.specs.Reading.{Step, fault, known, noPair, noLiterals, noExp}
+use Rattle.meaning.specs.Names.{Names, Meaning, anInput, aStore, aDefine, aProduction}
 use Rattle.rules.specs.declared.tokens.Seen.{Seen}
 use Rattle.rules.specs.Seen.{seen}
 use Rattle.rules.specs.Cells.{Means, Cells}

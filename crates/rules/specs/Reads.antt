@@ -7,7 +7,8 @@ use lib.ListN.{length}
 use Rattle.lexer.specs.Tokens as token
 use Rattle.lexer.specs.Tokens.{Token, Placed, tokenAt, tokensAt}
 use Rattle.meaning.specs.Answers.{Answer, refused, byte}
-use Rattle.meaning.specs.Reading.{Names, Expect, Program, Step, fault, onNumber, ifNumber, readOn}
+use Rattle.meaning.specs.Reading.{Expect, Step, fault, onNumber, ifNumber, readOn}
+use Rattle.meaning.specs.Names.{Names, Program}
 
 -- reading a text from a position on
 unfoldable pub readFrom : List ℕ → ℕ → Names → Expect → Answer Program

@@ -9,8 +9,10 @@ use Rattle.lexer.specs.Bytes.{lookup}
 use Rattle.lexer.specs.Signs.{leftBracket}
 use Rattle.lexer.specs.Tokens as token
 use Rattle.lexer.specs.Tokens.{Placed, tokenAt}
-use Rattle.meaning.specs.Answers.{refused, byte, oversize}
-use Rattle.meaning.specs.Reading.{Names, Expect, statement, toZero, Step, go, fault, is, choose, unless, notHere, newName, onNumber, step}
+use Rattle.meaning.specs.Answers.{refused, byte}
+use Rattle.refusals.specs.Numbers.{oversize}
+use Rattle.meaning.specs.Reading.{Expect, statement, toZero, Step, go, fault, is, choose, unless, notHere, newName, onNumber, step}
+use Rattle.meaning.specs.Names.{Names}
 use Rattle.rules.specs.declared.declarations.Scope.{Scope}
 use Rattle.rules.specs.declared.declarations.Declared.{Declared}
 use Rattle.words.specs.Words.{part0, part1, part2, part3}

@@ -6,7 +6,8 @@ use lib.ListN.{length, take}
 use Rattle.lexer.specs.Tokens.{tokens}
 use Rattle.meaning.specs.Expression.{Exp}
 use Rattle.meaning.specs.Answers.{Answer, value, refused, byte}
-use Rattle.meaning.specs.Reading.{Names, noNames, Expect, statement, monitorName, monitorMore, textEnd, Program, programOf, readOn}
+use Rattle.meaning.specs.Reading.{Expect, statement, monitorName, monitorMore, textEnd, readOn}
+use Rattle.meaning.specs.Names.{Names, noNames, Program, programOf}
 use Rattle.rules.specs.declared.declarations.Declared.{Declared}
 use Rattle.rules.specs.Cells.{Cells}
 use Rattle.rules.specs.Reads.{readFrom, Unless, Past}

@@ -5,9 +5,10 @@ use mathlib.Core.List.{List, []}
 use mathlib.Core.Path.{_≡_}
 use Prim.Native.Nat.{ℕ, _<_, _≤_}
 use lib.ListN.{length}
-use Rattle.meaning.specs.Expression.{Literal, Write}
+use Rattle.meaning.specs.Expression.{Literal, Write, aLetter}
 use Rattle.meaning.specs.Answers.{Answer, refused, byte}
-use Rattle.meaning.specs.Reading.{Names, Open, Expect, Program, writeStore, writeMore, operandMore, aLetter}
+use Rattle.meaning.specs.Reading.{Open, Expect, writeStore, writeMore, operandMore}
+use Rattle.meaning.specs.Names.{Names, Program}
 use Rattle.rules.specs.Cells.{Links, writesOn, Cells}
 use Rattle.rules.specs.Reads.{readFrom, Unless}
 use Rattle.rules.specs.Conditions.{Extends, Room, Spent}

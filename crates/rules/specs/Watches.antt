@@ -6,7 +6,7 @@ use lib.Dec.{eqb}
 use lib.ListN.{length, take, replicate}
 use lib.Seq.{sets}
 use Rattle.meaning.specs.Answers as meaning
-use Rattle.meaning.specs.Opening.{Opened}
+use Rattle.meaning.specs.Opening.{Opened, Counts}
 use Rattle.shape.specs.Walk.{kinds}
 use Rattle.rules.specs.Laying.{letterLists}
 use Rattle.rules.specs.Monitors.{Lists, lists, withMonitors}
@@ -52,9 +52,8 @@ unfoldable pub watchOf : meaning.Answer Opened → Watch
 watchOf (meaning.value o) = watchBy (withMonitors noLists 0 0 0 (o .monitors)) (o .rowCount) (o .letterCount) (length (o .monitors)) (o .wires) (o .initial)
 watchOf (meaning.refused n p) = watchBy noLists 0 0 0 0 []
 
--- the answer; opening names no tick
-unfoldable pub outcomeOf : meaning.Answer Opened → Outcome
-outcomeOf (meaning.value o) = Open (o .rowCount) (o .letterCount)
-outcomeOf (meaning.refused n (meaning.byte p)) = AtByte n p
-outcomeOf (meaning.refused n (meaning.letterOf m l)) = AtLetter n m l
-outcomeOf (meaning.refused n (meaning.tick t)) = AtByte n t
+-- What an answer of the code says: both counts, or the refusal.
+abbrev pub shownOutcome : Outcome → meaning.Answer Counts
+shownOutcome (Open r l) = meaning.value (record { rows = r; letters = l })
+shownOutcome (AtByte n p) = meaning.refused n (meaning.byte p)
+shownOutcome (AtLetter n m l) = meaning.refused n (meaning.letterOf m l)

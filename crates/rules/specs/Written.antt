@@ -4,8 +4,10 @@ use mathlib.Core.List.{List, [], _∷_, _++_}
 use Prim.Native.Nat.{ℕ}
 use lib.Dec.{eqb}
 use Rattle.meaning.specs.Expression.{Write, from-wire}
-use Rattle.meaning.specs.Answers.{Answer, oversize}
-use Rattle.meaning.specs.Reading.{Names, Program, go, sign, known, unless, noPair, noLiterals, noExp, writeMore, writtenStore}
+use Rattle.meaning.specs.Answers.{Answer}
+use Rattle.refusals.specs.Numbers.{oversize}
+use Rattle.meaning.specs.Reading.{go, sign, known, unless, noPair, noLiterals, noExp, writeMore, writtenStore}
+use Rattle.meaning.specs.Names.{Names, Program}
 use Rattle.rules.specs.declared.tokens.Seen.{Seen}
 use Rattle.rules.specs.Seen.{seen}
 use Rattle.rules.specs.Conditions.{behind}

@@ -20,10 +20,10 @@ ghost use lib.Dec.{eqb};
 ghost use lib.ListN.{length, take, replicate, set};
 ghost use lib.Seq.{sets};
 ghost use Prim.Native.Nat.{_+_, _*_, _<_, _≤_};
-ghost use Rattle.meaning.specs.Opening.{openText};
+ghost use Rattle.meaning.specs.Opening.{countsOf, openText};
 ghost use mathlib.Core.List.{[]};
 ghost use Rattle.shape.specs.Walk.{kinds};
-ghost use Rattle.rules.specs.Watches.{noLists, lettersFrom, watchBy, watchOf, outcomeOf};
+ghost use Rattle.rules.specs.Watches.{noLists, lettersFrom, watchBy, watchOf, shownOutcome};
 
 // A watch. Each row in one word, and letters, as `lay` has them (specs/Laying.antt); each letter's row; each
 // monitor's own row and first letter; how many rows, letters, monitors, wires and stores there are; the store values; a mark
@@ -48,7 +48,7 @@ pub struct Watch {
     pub stopped: bool,
 }
 
-// Both counts, or 01's number with a byte's place, or with monitor and letter.
+// Both counts, or a refusal's number with a byte's place, or with monitor and letter.
 pub enum Outcome {
     Open(usize, usize),
     AtByte(u8, usize),
@@ -154,7 +154,7 @@ fn refusal(outcome: Outcome) -> Start
 // Opens a text that is not overlong, with words that have room for it.
 fn open_in(text: &[u8], words: &mut [u64]) -> Start
     requires { ⌜ (length (now text) ≤ 16384) × (3 * length (now text) + 2 ≤ length (now words)) × (length (now words) ≤ 65535) ⌝ }
-    ensures { λ r. ⌜ (r .outcome ≡ outcomeOf (openText (now (text .entry)))) × (r .watch ≡ watchOf (openText (now (text .entry)))) × (length (now (words .exit)) ≡ length (now (words .entry))) ⌝ }
+    ensures { λ r. ⌜ (shownOutcome (r .outcome) ≡ countsOf (openText (now (text .entry)))) × (r .watch ≡ watchOf (openText (now (text .entry)))) × (length (now (words .exit)) ≡ length (now (words .entry))) ⌝ }
 {
     let mut values = [0u64; 16];
     let mut list = [0u16; 32];
@@ -215,7 +215,7 @@ fn open_in(text: &[u8], words: &mut [u64]) -> Start
 // Opens a rule text: a watch with tick count 0, the first store values and each monitor at its start, and both counts; or
 // the refusal. The words that it is read into are few where the text is short.
 pub fn open(text: &[u8]) -> Start
-    ensures { λ r. ⌜ (r .outcome ≡ outcomeOf (openText (now (text .entry)))) × (r .watch ≡ watchOf (openText (now (text .entry)))) ⌝ }
+    ensures { λ r. ⌜ (shownOutcome (r .outcome) ≡ countsOf (openText (now (text .entry)))) × (r .watch ≡ watchOf (openText (now (text .entry)))) ⌝ }
 {
     if 16384 < text.len() {
         return refusal(Outcome::AtByte(1, 0));

@@ -11,7 +11,7 @@ use lib.ListN.{length, getD, List·getD-eq-default}
 use lib.Bits.{bitAnd, bitOr, bitXor, and-zero-r}
 use lib.Pow.{shl-exact, field, mod-mod-pow, shr-shr}
 use borrow.Author.Tests.{eqb-true, eqb-false, eq-eqb, ne-eqb}
-use Rattle.meaning.specs.Shape.{bit}
+use Rattle.meaning.specs.ShapeTests.{bit}
 use Rattle.meaning.specs.Masks.{passes, compatible}
 use Rattle.meaning.proofs.Masks.{Bit, off, on, bit-is, bit-and, bit-or, bit-xor, bit-below, bit-above, bit-over, bit-ones, zero-bit}
 use Rattle.shape.specs.Sets.{has, Passing}

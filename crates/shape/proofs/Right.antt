@@ -10,10 +10,11 @@ use lib.Dec.{T, T-not, not-T, eqb, eqb→eq, eqb-refl}
 use lib.ListN.{getD}
 use borrow.Author.Tests.{lt-ltb, le-ltb, eqb-true, eqb-false, eq-eqb, ne-eqb}
 use Rattle.meaning.specs.Lists.{_∈_, any, null, only}
-use Rattle.meaning.specs.Answers as rule
+use Rattle.refusals.specs.Numbers.{openEnd, fork}
 use Rattle.meaning.specs.Expression.{Letter, Exp, letter, seq, alt, star, pipe, letters, size, rows, Ordered}
 use Rattle.meaning.specs.Masks.{look, want, compatible}
-use Rattle.meaning.specs.Shape.{last, follow, threads, agree, together, SizedLetters, unsatisfiable, openEnds, ambiguous, least, turned-away, firstOf, SideBySide}
+use Rattle.meaning.specs.Shape.{last, follow, threads, SideBySide}
+use Rattle.meaning.specs.ShapeTests.{Shape, accepted, agree, together, SizedLetters, unsatisfiable, openEnds, ambiguous, least, turned-away, firstOf}
 use Rattle.meaning.proofs.ListLaws.{here, append-∈, one-∈, ∈-each, ∈-only, T-and, and-T, any-from, any-to, none-in}
 use Rattle.meaning.proofs.OneWay.{Numbered, last-has}
 use Rattle.meaning.proofs.Numbering.{between, numbered}
@@ -24,10 +25,8 @@ use Rattle.meaning.proofs.Summary.{rules11and12}
 use Rattle.shape.specs.Ends.{Ends, letterEnds, starEnds, joinedEnds, openAt}
 use Rattle.shape.specs.Sides.{Sides, letterSides, starSides, joinedSides, rivals, forkAt}
 use Rattle.shape.specs.Lowest.{lowest}
-use Rattle.shape.specs.Judge.{orRest, judgeOf, shownJudged}
+use Rattle.shape.specs.Judge.{orRest, judgeOf}
 use Rattle.shape.specs.Held.{RowsHold}
-use Rattle.shape.specs.declared.Judged.{Judged}
-use Rattle.shape.specs.declared.Judged.the-variants.{Fine, OpenEnd, Fork}
 use Rattle.shape.proofs.Walked.{behind, walk-held}
 use Rattle.shape.proofs.EndsRight.{endsOpen, ends-right}
 use Rattle.shape.proofs.SidesRight.{made, forks-right, first-forks}
@@ -58,29 +57,29 @@ searched test i (suc n) = by (test i) refl (searched test (suc i) n)
     by false p (missing e h) = missing (e ∙ moved n) (before n p h)
 
 -- a rule that has exactly the numbers that pass
-module _ (number : ℕ) (fault : ℕ → Judged) (shows : (k : ℕ) → shownJudged (fault k) ≡ turned-away number k) (rest : Judged)
+module _ (number : ℕ) (rest : Shape)
     (test : ℕ → Bool) (i n : ℕ) (ns : List ℕ) (exactly : (k : ℕ) → k < n → T (test (i + k)) ↔ k ∈ ns) (inside : (k : ℕ) → k ∈ ns → k < n) where
-  lowest-of : (k : ℕ) (ms : List ℕ) → k ∈ ms → ((j : ℕ) → j ∈ ms → k ≤ j) → firstOf number ms (shownJudged rest) ≡ turned-away number k
+  lowest-of : (k : ℕ) (ms : List ℕ) → k ∈ ms → ((j : ℕ) → j ∈ ms → k ≤ j) → firstOf number ms rest ≡ turned-away number k
   lowest-of k [] h low = absurd (none-in refl h)
   lowest-of k (a ∷ bs) h low =
       let e : least a bs ≡ k = omega (arith, least-le a bs k h, low (least a bs) (least-in a bs)) in ap (turned-away number) e
 
-  none-of : (ms : List ℕ) → ((j : ℕ) → j ∈ ms → ⊥) → firstOf number ms (shownJudged rest) ≡ shownJudged rest
+  none-of : (ms : List ℕ) → ((j : ℕ) → j ∈ ms → ⊥) → firstOf number ms rest ≡ rest
   none-of [] h = refl
   none-of (a ∷ bs) h = absurd (h a (here refl))
 
-  rule-right : (r : ℕ) → Searched test i n r → shownJudged (orRest i (i + n) r fault rest) ≡ firstOf number ns (shownJudged rest)
+  rule-right : (r : ℕ) → Searched test i n r → orRest i (i + n) number r rest ≡ firstOf number ns rest
   rule-right r (found k l e t h) =
       let below : r < i + n = omega arith in
       let own : r - i ≡ k = omega arith in
-      ap (λ (b : Bool). shownJudged (cond b (fault (r - i)) rest)) (lt-ltb r (i + n) below) ∙ shows (r - i) ∙ ap (turned-away number) own
+      ap (λ (b : Bool). cond b (turned-away number (r - i)) rest) (lt-ltb r (i + n) below) ∙ ap (turned-away number) own
       ∙ sym (lowest-of k ns (exactly k l .0 t) (λ j m. not-below j (λ s. h j s (exactly j (inside j m) .1 m))))
     where
       not-below : (j : ℕ) → (j < k → ⊥) → k ≤ j
       not-below j g = elim (decLt j k) [ yes s ↦ absurd (g s) | no s ↦ omega arith ]
   rule-right r (missing e h) =
       let above : i + n ≤ r = omega arith in
-      ap (λ (b : Bool). shownJudged (cond b (fault (r - i)) rest)) (le-ltb r (i + n) above)
+      ap (λ (b : Bool). cond b (turned-away number (r - i)) rest) (le-ltb r (i + n) above)
       ∙ sym (none-of ns (λ j m. h j (inside j m) (exactly j (inside j m) .1 m)))
 
 -- ---- letters by number and by index
@@ -245,10 +244,10 @@ module _ (kind left right looks wants : List ℕ) (row start : ℕ) (m : Exp) (h
       subst (λ (n : ℕ). Searched test start (size m) (lowest test start n)) e (searched test start (size m))
 
   -- Of rows that hold a monitor which kept rule 9, `judge` answers what rules 11 and 12 say.
-  pub judge-right : shownJudged (judgeOf kind left right looks wants row start (start + size m)) ≡ rules11and12 m
+  pub judge-right : judgeOf kind left right looks wants row start (start + size m) ≡ rules11and12 m
   unfolding judgeOf
   judge-right =
-      rule-right rule.openEnd OpenEnd (λ k. refl) _ (openAt kind left right row) start (size m) (openEnds m) open-exactly open-inside _ (whole (openAt kind left right row))
-      ∙ ap (firstOf rule.openEnd (openEnds m))
-      (rule-right rule.fork Fork (λ k. refl) Fine (forkAt kind left right looks wants row) start (size m) (ambiguous m) fork-exactly fork-inside _
+      rule-right openEnd _ (openAt kind left right row) start (size m) (openEnds m) open-exactly open-inside _ (whole (openAt kind left right row))
+      ∙ ap (firstOf openEnd (openEnds m))
+      (rule-right fork accepted (forkAt kind left right looks wants row) start (size m) (ambiguous m) fork-exactly fork-inside _
       (whole (forkAt kind left right looks wants row)))

@@ -3,26 +3,26 @@ use mathlib.Core.Bool.{cond}
 use mathlib.Core.List.{List}
 use Prim.Native.Nat.{ℕ, _-_}
 use lib.Dec.{ltb}
-use Rattle.meaning.specs.Answers as rule
-use Rattle.meaning.specs.Shape.{Shape, accepted, turned-away}
+use Rattle.refusals.specs.Numbers.{openEnd, fork}
+use Rattle.meaning.specs.ShapeTests.{Shape, accepted, turned-away}
 use Rattle.shape.specs.Ends.{openAt}
 use Rattle.shape.specs.Sides.{forkAt}
 use Rattle.shape.specs.Lowest.{lowest}
 use Rattle.shape.specs.declared.Judged.{Judged}
 use Rattle.shape.specs.declared.Judged.the-variants.{Fine, OpenEnd, Fork}
 
--- a letter below the end is at fault, by its number from the first on; else the rest
-abbrev pub orRest : (first end : ℕ) → ℕ → (ℕ → Judged) → Judged → Judged
-orRest first end letter fault rest = cond (ltb letter end) (fault (letter - first)) rest
+-- a letter below the end is at fault by a rule, by its number from the first on; else the rest
+abbrev pub orRest : (first end : ℕ) → (rule letter : ℕ) → Shape → Shape
+orRest first end rule letter rest = cond (ltb letter end) (turned-away rule (letter - first)) rest
 
 -- rule 11 and then rule 12, each at the lowest of the letters from the first on and below the end
-unfoldable pub judgeOf : (kind left right look want : List ℕ) → (row first end : ℕ) → Judged
+unfoldable pub judgeOf : (kind left right look want : List ℕ) → (row first end : ℕ) → Shape
 judgeOf kind left right look want row first end =
-    orRest first end (lowest (openAt kind left right row) first (end - first)) OpenEnd
-    (orRest first end (lowest (forkAt kind left right look want row) first (end - first)) Fork Fine)
+    orRest first end openEnd (lowest (openAt kind left right row) first (end - first))
+    (orRest first end fork (lowest (forkAt kind left right look want row) first (end - first)) accepted)
 
--- an answer in 01's terms
+-- what an answer of the code says: the rule and the letter, or that both are kept
 abbrev pub shownJudged : Judged → Shape
 shownJudged Fine = accepted
-shownJudged (OpenEnd n) = turned-away rule.openEnd n
-shownJudged (Fork n) = turned-away rule.fork n
+shownJudged (OpenEnd n) = turned-away openEnd n
+shownJudged (Fork n) = turned-away fork n

@@ -2,7 +2,7 @@
 
 ghost use mathlib.Core.Path.{_≡_};
 ghost use Rattle.shape.specs.Walk.{kinds, lefts, rights};
-ghost use Rattle.shape.specs.Judge.{judgeOf};
+ghost use Rattle.shape.specs.Judge.{judgeOf, shownJudged};
 
 mod ends;
 mod sets;
@@ -25,7 +25,7 @@ pub fn judge(
     first: usize,
     end: usize,
 ) -> Judged
-    ensures { λ r. ⌜ r ≡ judgeOf (kinds (now (table .entry))) (lefts (now (table .entry))) (rights (now (table .entry))) (now (look .entry)) (now (want .entry)) row first end ⌝ }
+    ensures { λ r. ⌜ shownJudged r ≡ judgeOf (kinds (now (table .entry))) (lefts (now (table .entry))) (rights (now (table .entry))) (now (look .entry)) (now (want .entry)) row first end ⌝ }
 {
     let open = ends::lowest_open(table, row, first, end);
     if open < end {

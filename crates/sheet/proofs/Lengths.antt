@@ -14,17 +14,17 @@ use Rattle.trace.specs.Record.{Item, word, end, count, merged, idle, readRecord
 use Rattle.trace.proofs.Traces.{word-length}
 use Rattle.meaning.specs.Lists.{total}
 use Rattle.meaning.specs.Expression.{Exp, rows}
-use Rattle.meaning.specs.Answers.{Answer, value, refused, tick}
-use Rattle.meaning.specs.Opening.{Opened, openText}
+use Rattle.meaning.specs.Answers.{Answer, value, refused}
+use Rattle.meaning.specs.Opening.{Opened, counts, countsOf, openText}
 use Rattle.meaning.specs.Fit.{Verdict, Tick, History, start, verdict, judged, onward, fits}
 use Rattle.meaning.specs.Fit as fit
 use Rattle.meaning.specs.Calls as calls
 use Rattle.meaning.specs.Calls.{Reply, ok, bad, State, opening, reply, after, isFull, isStray, mostTicks}
-use Rattle.meaning.specs.Sheet.{decimal, hexadecimal, line, refusalLine, countsLine, cleanLine, tickLines, sheet}
+use Rattle.meaning.specs.Sheet.{decimal, hexadecimal, line, refusalLine, placeNumbers, countsLine, firstLine, cleanLine, tickLines, sheet}
 use Rattle.meaning.proofs.Openings.{rows-right, rows-fit}
 use Rattle.meaning.proofs.Rows.{rows-no-more}
 use Rattle.meaning.proofs.Walk.{a-row}
-use Rattle.sheet.specs.Lines.{okLine, badLine, firstLine}
+use Rattle.sheet.specs.Lines.{okLine, badLine}
 use Rattle.sheet.proofs.PageSteps.{decimal-short, hexadecimal-long}
 
 -- ---- lines
@@ -47,7 +47,7 @@ unfolding cleanLine
 clean-short t h = omega (arith, line-long (bytes "clean") (decimal t ∷ []), decimal-short t h)
 
 -- a refusal at a tick
-pub refused-short : (number t : ℕ) → number < 10 ^ 20 → t < 10 ^ 20 → length (refusalLine number (tick t)) ≤ 64
+pub refused-short : (number t : ℕ) → number < 10 ^ 20 → t < 10 ^ 20 → length (refusalLine number (t ∷ [])) ≤ 64
 unfolding refusalLine
 refused-short number t h l = omega (arith, line-long (bytes "refused") (decimal number ∷ decimal t ∷ []), decimal-short number h, decimal-short t l)
 
@@ -72,7 +72,7 @@ blames i (m ∷ ms) ts n h =
 abbrev Small : (oks monitors : ℕ) → Reply → Type 0
 Small oks n ok = oks < mostTicks
 Small oks n (bad m) = m < n
-Small oks n (calls.refused k) = k < 18
+Small oks n (calls.refused k p) = k < 18
 
 reply-small : (ms : List Exp) (wires : ℕ) (s : State History) (w : ℕ) → Small (s .oks) (length ms) (reply (judged ms) wires s w)
 unfolding reply
@@ -125,7 +125,7 @@ module _ (o : Opened) (few : length (o .monitors) ≤ 1024) where
           p .1,
         ))
     on-reply w n e (bad m) f small = rw (e, f) (omega (arith, bad-short (s .oks) w (omega (arith, h)) m (omega (arith, small, few))))
-    on-reply w n e (calls.refused m) f small = rw (e, f) (omega (arith, refused-short m (s .oks) (omega (arith, small)) (omega (arith, h))))
+    on-reply w n e (calls.refused m p) f small = rw (e, f) (omega (arith, refused-short m (s .oks) (omega (arith, small)) (omega (arith, h))))
 
     on-read : (r : trace.Answer Item) → readRecord rest before ≡ r → Turned r → length (tickLines (suc k) o s (s .oks) rest before) ≤ 64 * (min (length rest) (mostTicks - s .oks) + 1)
     unfolding tickLines
@@ -148,15 +148,15 @@ few-monitors : (text : List ℕ) (o : Opened) → openText text ≡ value o → 
 few-monitors text o e = omega (arith, each-a-row (o .monitors), rows-no-more 0 (o .monitors), rows-right text o e .0, rows-fit text o e)
 
 -- where the first line is short, as it is if the numbers of a refused text's place are 64-bit words
-pub sheet-short : (text records : List ℕ) → length (firstLine (openText text)) ≤ 128 → length (sheet text records) ≤ 192 + 64 * min (length records) mostTicks
-unfolding sheet
+pub sheet-short : (text records : List ℕ) → length (firstLine (countsOf (openText text))) ≤ 128 → length (sheet text records) ≤ 192 + 64 * min (length records) mostTicks
+unfolding sheet countsOf
 sheet-short text records first = by (openText text) refl first
   where
-    by : (a : Answer Opened) → openText text ≡ a → length (firstLine a) ≤ 128 → length (sheet text records) ≤ 192 + 64 * min (length records) mostTicks
+    by : (a : Answer Opened) → openText text ≡ a → length (firstLine (countsOf a)) ≤ 128 → length (sheet text records) ≤ 192 + 64 * min (length records) mostTicks
     by (value o) e h = rw e (omega (
       arith,
       h,
-      length-append (countsLine o) (tickLines (length records) o (opening (start (o .initial))) 0 records 0),
+      length-append (countsLine (counts o)) (tickLines (length records) o (opening (start (o .initial))) 0 records 0),
       ticks-short o (few-monitors text o e) (length records) (opening (start (o .initial))) records 0 (omega arith),
     ))
-    by (refused number place) e h = rw e (omega (arith, h))
+    by (refused number place) e h = rw e (omega (arith, h, length-append (refusalLine number (placeNumbers place)) []))

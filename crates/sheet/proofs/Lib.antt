@@ -5,3 +5,5 @@ mod RunSteps
 mod SheetSteps
 mod PageSteps
 mod LineSteps
+pub mod Pieces
+pub mod Demands

@@ -7,8 +7,7 @@ use native.Mathlib.Omega.{arith}
 use lib.ListN.{length, length-append}
 use lib.Seq.{sets}
 use Rattle.lexer.specs.Bytes.{bytes}
-use Rattle.meaning.specs.Answers.{byte, letterOf}
-use Rattle.meaning.specs.Sheet.{decimal, hexadecimal, line, refusalLine, cleanLine}
+use Rattle.meaning.specs.Sheet.{decimal, hexadecimal, line, refusalLine, countsLine, cleanLine}
 use Rattle.sheet.specs.Lines.{okLine, badLine, tickFront}
 use Rattle.sheet.proofs.PageSteps.{Put, put-two, hexadecimal-long}
 
@@ -36,18 +35,18 @@ module _ {o o₁ xs : List ℕ} {a a₁ : ℕ} where
 
 -- ---- what the lines are
 
-refusal-line : (n p : ℕ) → bytes "refused " ++ (decimal n ++ ((32 ∷ []) ++ (decimal p ++ (10 ∷ [])))) ≡ refusalLine n (byte p)
+refusal-line : (n p : ℕ) → bytes "refused " ++ (decimal n ++ ((32 ∷ []) ++ (decimal p ++ (10 ∷ [])))) ≡ refusalLine n (p ∷ [])
 unfolding refusalLine line
 refusal-line n p = refl
 
 refusal-at-line : (n m l : ℕ)
-    → bytes "refused " ++ (decimal n ++ ((32 ∷ []) ++ (decimal m ++ ((32 ∷ []) ++ (decimal l ++ (10 ∷ [])))))) ≡ refusalLine n (letterOf m l)
+    → bytes "refused " ++ (decimal n ++ ((32 ∷ []) ++ (decimal m ++ ((32 ∷ []) ++ (decimal l ++ (10 ∷ [])))))) ≡ refusalLine n (m ∷ l ∷ [])
 unfolding refusalLine line
 refusal-at-line n m l = refl
 
 counts-line : (r l : ℕ)
-    → bytes "rows " ++ (decimal r ++ (bytes " letters " ++ (decimal l ++ (10 ∷ [])))) ≡ line (bytes "rows" ∷ decimal r ∷ bytes "letters" ∷ decimal l ∷ [])
-unfolding line
+    → bytes "rows " ++ (decimal r ++ (bytes " letters " ++ (decimal l ++ (10 ∷ [])))) ≡ countsLine (record { rows = r; letters = l })
+unfolding countsLine line
 counts-line r l = refl
 
 clean-line : (n : ℕ) → bytes "clean " ++ (decimal n ++ (10 ∷ [])) ≡ cleanLine n
@@ -72,17 +71,17 @@ bad-line t w m = behind-front t w (bytes "bad " ++ (decimal m ++ (10 ∷ [])))
 
 pub refusal-put : (n p : ℕ) {o o₁ o₂ o₃ o₄ o₅ : List ℕ} {a a₁ a₂ a₃ a₄ a₅ : ℕ}
     → Put o a (bytes "refused ") o₁ a₁ → Put o₁ a₁ (decimal n) o₂ a₂ → Put o₂ a₂ (32 ∷ []) o₃ a₃ → Put o₃ a₃ (decimal p) o₄ a₄ → Put o₄ a₄ (10 ∷ []) o₅ a₅ → length (decimal n) ≤ 20 → length (decimal p) ≤ 20
-    → Line o a (refusalLine n (byte p)) o₅ a₅ 64
+    → Line o a (refusalLine n (p ∷ [])) o₅ a₅ 64
 refusal-put n p p₁ p₂ p₃ p₄ p₅ l₁ l₂ = as-line (refusal-line n p) (then (all p₁) (then (up-to p₂ l₁) (then (all p₃) (then (up-to p₄ l₂) (all p₅))))) (omega arith)
 
 pub refusal-at-put : (n m l : ℕ) {o o₁ o₂ o₃ o₄ o₅ o₆ o₇ : List ℕ} {a a₁ a₂ a₃ a₄ a₅ a₆ a₇ : ℕ}
     → Put o a (bytes "refused ") o₁ a₁ → Put o₁ a₁ (decimal n) o₂ a₂ → Put o₂ a₂ (32 ∷ []) o₃ a₃ → Put o₃ a₃ (decimal m) o₄ a₄ → Put o₄ a₄ (32 ∷ []) o₅ a₅ → Put o₅ a₅ (decimal l) o₆ a₆ → Put o₆ a₆ (10 ∷ []) o₇ a₇ → length (decimal n) ≤ 20 → length (decimal m) ≤ 20 → length (decimal l) ≤ 20
-    → Line o a (refusalLine n (letterOf m l)) o₇ a₇ 128
+    → Line o a (refusalLine n (m ∷ l ∷ [])) o₇ a₇ 128
 refusal-at-put n m l p₁ p₂ p₃ p₄ p₅ p₆ p₇ l₁ l₂ l₃ = as-line (refusal-at-line n m l) (then (all p₁) (then (up-to p₂ l₁) (then (all p₃) (then (up-to p₄ l₂) (then (all p₅) (then (up-to p₆ l₃) (all p₇))))))) (omega arith)
 
 pub counts-put : (r l : ℕ) {o o₁ o₂ o₃ o₄ o₅ : List ℕ} {a a₁ a₂ a₃ a₄ a₅ : ℕ}
     → Put o a (bytes "rows ") o₁ a₁ → Put o₁ a₁ (decimal r) o₂ a₂ → Put o₂ a₂ (bytes " letters ") o₃ a₃ → Put o₃ a₃ (decimal l) o₄ a₄ → Put o₄ a₄ (10 ∷ []) o₅ a₅ → length (decimal r) ≤ 20 → length (decimal l) ≤ 20
-    → Line o a (line (bytes "rows" ∷ decimal r ∷ bytes "letters" ∷ decimal l ∷ [])) o₅ a₅ 64
+    → Line o a (countsLine (record { rows = r; letters = l })) o₅ a₅ 64
 counts-put r l p₁ p₂ p₃ p₄ p₅ l₁ l₂ = as-line (counts-line r l) (then (all p₁) (then (up-to p₂ l₁) (then (all p₃) (then (up-to p₄ l₂) (all p₅))))) (omega arith)
 
 pub tick-put : (t w : ℕ) {o o₁ o₂ o₃ o₄ : List ℕ} {a a₁ a₂ a₃ a₄ : ℕ}

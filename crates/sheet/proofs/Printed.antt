@@ -13,8 +13,8 @@ use Rattle.trace.specs.Record.{Item, word, end, readRecord}
 use Rattle.trace.proofs.Exact.{end-exactly}
 use Rattle.trace.proofs.Traces.{word-length}
 use Rattle.trace.proofs.Clash.{clash}
-use Rattle.meaning.specs.Answers.{Answer, value, refused, tick}
-use Rattle.meaning.specs.Opening.{Opened, openText}
+use Rattle.meaning.specs.Answers.{Answer, value, refused}
+use Rattle.meaning.specs.Opening.{Opened, counts, countsOf, openText}
 use Rattle.meaning.specs.Fit.{History, start, judged, onward}
 use Rattle.meaning.specs.Calls as calls
 use Rattle.meaning.specs.Calls.{Reply, ok, bad, State, opening, reply, after, repliesFrom}
@@ -65,7 +65,7 @@ module _ (o : Opened) where
         (next (watchAfter v w) (after (onward (o .monitors)) s w ok) w (drop n rest) (rw length-drop (omega (arith, p .0, p .1, short))) (agree-after v s a w ok g)
         ∙ ap (λ (t : ℕ). tickLines k o (after (onward (o .monitors)) s w ok) t (drop n rest) w) (ok-ticks v w f)))
     on-reply w n e (bad m) f = rw (e, agree-reply v s a w (bad m) f) (append-nil (badLine (v .ticks) w m))
-    on-reply w n e (calls.refused m) f = rw (e, agree-reply v s a w (calls.refused m) f) (append-nil (refusalLine m (tick (v .ticks))))
+    on-reply w n e (calls.refused m p) f = rw (e, agree-reply v s a w (calls.refused m p) f) (append-nil (refusalLine m (v .ticks ∷ [])))
 
     on-read : (r : trace.Answer Item) → readRecord rest before ≡ r → closed (onRead r (run v before) rest (runOn k)) ≡ tickLines (suc k) o s (v .ticks) rest before
     unfolding tickLines
@@ -74,10 +74,10 @@ module _ (o : Opened) where
     on-read (trace.refused number place) e = by rest e (eqb number 13) refl
       where
         by : (bs : List ℕ) → readRecord bs before ≡ trace.refused number place → (b : Bool) → eqb number 13 ≡ b
-            → closed (cond b (ran [] (run v before) bs false) (ran (refusalLine number (tick (v .ticks))) (run v before) bs true)) ≡ tickLines (suc k) o s (v .ticks) bs before
+            → closed (cond b (ran [] (run v before) bs false) (ran (refusalLine number (v .ticks ∷ [])) (run v before) bs true)) ≡ tickLines (suc k) o s (v .ticks) bs before
         by [] f b g = clash (cc (sym f ∙ end-exactly [] before .1 refl))
-        by (m ∷ bs) f true g = rw f (ap (λ (n : ℕ). refusalLine n (tick (v .ticks))) (sym (eqb-true number 13 g)))
-        by (m ∷ bs) f false g = rw f (append-nil (refusalLine number (tick (v .ticks))))
+        by (m ∷ bs) f true g = rw f (ap (λ (n : ℕ). refusalLine n (v .ticks ∷ [])) (sym (eqb-true number 13 g)))
+        by (m ∷ bs) f false g = rw f (append-nil (refusalLine number (v .ticks ∷ [])))
 
   prints : (k : ℕ) → Prints k
   unfolding runOn tickLines
@@ -86,10 +86,10 @@ module _ (o : Opened) where
   prints (suc k) v s before rest short a = on-read k (prints k) v s before rest short a (readRecord rest before) refl
 
 pub sheet-printed : (text records : List ℕ) → sheetOf (openText text) records ≡ sheet text records
-unfolding sheet watchOf
+unfolding sheet watchOf countsOf
 sheet-printed text records = by (openText text) refl
   where
     by : (a : Answer Opened) → openText text ≡ a → sheetOf a records ≡ sheet text records
-    by (value o) e = rw e (ap (λ (l : List ℕ). countsLine o ++ l)
+    by (value o) e = rw e (ap (λ (l : List ℕ). countsLine (counts o) ++ l)
         (prints o (length records) (watchOf (value o)) (opening (start (o .initial))) 0 records (le-refl _) (calls-answered text o e)))
-    by (refused number place) e = rw e (append-nil (refusalLine number place))
+    by (refused number place) e = rw e refl

@@ -21,9 +21,6 @@ use Rattle.rules.specs.declared.Watch.{Watch}
 use Rattle.rules.proofs.Overlay.{sets-behind}
 use Rattle.monitor.specs.Calls.{stateOf, withState, stepFrom, refusedBy, replyOf, watchAfter}
 use Rattle.monitor.specs.Ticks.{move}
-use Rattle.monitor.specs.Shown.{answerOf}
-use Rattle.monitor.specs.declared.Answer.{Answer as Told}
-use Rattle.monitor.specs.declared.Answer.the-variants as code
 use Rattle.monitor.proofs.TickSteps.{call-refused, call-bad, call-ok, few-ticks, one-tick}
 use Rattle.sheet.specs.Lines.{Run, run, Ran, ran, printing, onReply, onRead, okLine, badLine, runOn, runOver}
 use Rattle.sheet.specs.Items.{itemOf}
@@ -54,7 +51,7 @@ on-read-same (value (word w n)) s rest f g h = by (replyOf (s .watch) w)
     by : (a : calls.Reply) → onReply a s rest w n f ≡ onReply a s rest w n g
     by calls.ok = ap (printing (okLine (s .watch .ticks) w)) (h (run (watchAfter (s .watch) w) w) w n refl)
     by (calls.bad m) = refl
-    by (calls.refused k) = refl
+    by (calls.refused k p) = refl
 on-read-same (value end) s rest f g h = refl
 on-read-same (refused k p) s rest f g h = refl
 
@@ -71,7 +68,7 @@ run-same (suc j) (suc k) s rest h l =
     (λ u w n e. let p = word-length rest (s .before) w n e in
     run-same j k u (drop n rest) (rw length-drop (omega arith)) (rw length-drop (omega arith)))
 
-run-step : (s : Run) (rest : List ℕ) → runOver s rest ≡ onRead (readRecord rest (s .before)) s rest runOver
+pub run-step : (s : Run) (rest : List ℕ) → runOver s rest ≡ onRead (readRecord rest (s .before)) s rest runOver
 unfolding runOn readRecord
 run-step s [] = refl
 run-step s (x ∷ rest) =
@@ -100,30 +97,10 @@ read-end (value end) s rest f e = refl
 read-end (refused k p) s rest f e = rw (eq-eqb k 13 e)
 
 read-refused : (r : Answer Item) (s : Run) (rest : List ℕ) (f : Run → List ℕ → Ran) → (itemOf r .number ≡ 13 → ⊥) → (itemOf r .number ≡ 0 → ⊥)
-    → onRead r s rest f ≡ ran (refusalLine (itemOf r .number) (meaning.tick (s .watch .ticks))) s rest true
+    → onRead r s rest f ≡ ran (refusalLine (itemOf r .number) (s .watch .ticks ∷ [])) s rest true
 read-refused (value (word w n)) s rest f e z = absurd (z refl)
 read-refused (value end) s rest f e z = absurd (e refl)
 read-refused (refused k p) s rest f e z = rw (ne-eqb k 13 e)
-
--- a tick's place is printed as a byte's
-pub same-place : (k t : ℕ) → refusalLine k (meaning.byte t) ≡ refusalLine k (meaning.tick t)
-unfolding refusalLine
-same-place k t = refl
-
--- ---- what a call answers
-
-abbrev replied : Told → calls.Reply
-replied code.Ok = calls.ok
-replied (code.Bad m) = calls.bad m
-replied (code.Refused n) = calls.refused n
-
-same-reply : (r : calls.Reply) → replied (answerOf r) ≡ r
-same-reply calls.ok = refl
-same-reply (calls.bad m) = refl
-same-reply (calls.refused n) = refl
-
-is-reply : (a : Told) (r : calls.Reply) → a ≡ answerOf r → r ≡ replied a
-is-reply a r e = sym (ap replied e ∙ same-reply r)
 
 printing-twice : (p q : List ℕ) (x : Ran) → printing p (printing q x) ≡ printing (p ++ q) x
 printing-twice p q x = ap (λ (l : List ℕ). ran l (x .after) (x .left) (x .ended)) (sym (append-assoc p q (x .printed)))
@@ -205,13 +182,12 @@ module _ {v₀ : Watch} {b₀ : ℕ} {records out₀ : List ℕ} {at : ℕ} {out
         going-left [] (run v last) false out place (run-step (run v last) rest ∙ read-end (readRecord rest last) (run v last) rest runOver (sym numbered ∙ h)) refl (omega arith) (omega arith)
 
     -- an idle byte
-    pub going-idle : (number ≡ 13 → ⊥) → (number ≡ 0 → ⊥) → Leaves (refusalLine number (meaning.byte (v .ticks))) (run v last) true
+    pub going-idle : (number ≡ 13 → ⊥) → (number ≡ 0 → ⊥) → Leaves (refusalLine number (v .ticks ∷ [])) (run v last) true
     going-idle h z new stop =
-        going-left (refusalLine number (meaning.byte (v .ticks))) (run v last) true new stop
+        going-left (refusalLine number (v .ticks ∷ [])) (run v last) true new stop
         (run-step (run v last) rest
         ∙ read-refused (readRecord rest last) (run v last) rest runOver (λ q. h (numbered ∙ q)) (λ q. z (numbered ∙ q))
-        ∙ ap (λ (k : ℕ). ran (refusalLine k (meaning.tick (v .ticks))) (run v last) rest true) (sym numbered)
-        ∙ ap (λ (l : List ℕ). ran l (run v last) rest true) (sym (same-place number (v .ticks))))
+        ∙ ap (λ (k : ℕ). ran (refusalLine k (v .ticks ∷ [])) (run v last) rest true) (sym numbered))
 
     module _ (z : number ≡ 0) where
       read : readRecord rest last ≡ value (word w n)
@@ -229,13 +205,12 @@ module _ {v₀ : Watch} {b₀ : ℕ} {records out₀ : List ℕ} {at : ℕ} {out
           ∙ ap (λ (a : calls.Reply). onReply a (run v last) rest w n runOver) r
 
       module _ (k : ℕ) (d : k ≡ refusedBy (v .stopped) (v .ticks) (v .wires) w) where
-        pub going-refused : (k ≡ 0 → ⊥) → Leaves (refusalLine k (meaning.byte (v .ticks))) (run v last) true
+        pub going-refused : (k ≡ 0 → ⊥) → Leaves (refusalLine k (v .ticks ∷ [])) (run v last) true
         going-refused h new stop =
             let c = call-refused v w k d h in
-            going-left (refusalLine k (meaning.byte (v .ticks))) (run v last) true new stop
-            (replied-with (calls.refused k) (is-reply (code.Refused k) (replyOf v w) (c .0))
-            ∙ ap (λ (u : Watch). ran (refusalLine k (meaning.tick (v .ticks))) (run u last) rest true) (sym (c .1))
-            ∙ ap (λ (l : List ℕ). ran l (run v last) rest true) (sym (same-place k (v .ticks))))
+            going-left (refusalLine k (v .ticks ∷ [])) (run v last) true new stop
+            (replied-with (calls.refused k 0) (sym (c .0))
+            ∙ ap (λ (u : Watch). ran (refusalLine k (v .ticks ∷ [])) (run u last) rest true) (sym (c .1)))
 
         pub going-few : k ≡ 0 → v .ticks < 1000000
         going-few q = few-ticks v w k d q
@@ -246,7 +221,7 @@ module _ {v₀ : Watch} {b₀ : ℕ} {records out₀ : List ℕ} {at : ℕ} {out
               let u = withState v (record { inner = stateOf v .inner; oks = v .ticks; stopped = true }) in
               let c = call-bad v w k d q i (min (v .monitors) 32) K σ s refl u (ltb-true i (min (v .monitors) 32) (sym f ∙ y)) refl in
               going-left (badLine (v .ticks) w i) (run u last) true new stop
-              (replied-with (calls.bad i) (is-reply (code.Bad i) (replyOf v w) (c .0))
+              (replied-with (calls.bad i) (sym (c .0))
               ∙ ap (λ (u : Watch). ran (badLine (v .ticks) w i) (run u last) rest true) (sym (c .1)))
 
           abbrev next : Watch
@@ -261,7 +236,7 @@ module _ {v₀ : Watch} {b₀ : ℕ} {records out₀ : List ℕ} {at : ℕ} {out
               record {
                 done = m .done ++ okLine (v .ticks) w;
                 whole =
-                    m .whole ∙ ap (printing (m .done)) (replied-with calls.ok (is-reply code.Ok (replyOf v w) (c .0)))
+                    m .whole ∙ ap (printing (m .done)) (replied-with calls.ok (sym (c .0)))
                     ∙ printing-twice (m .done) (okLine (v .ticks) w) (runOver (run (watchAfter v w) w) (drop n rest))
                     ∙ ap₂ (λ (u : Watch) (x : List ℕ). printing (m .done ++ okLine (v .ticks) w) (runOver (run u w) x)) (sym (c .1)) (drop-drop n used records);
                 put =

@@ -2,24 +2,23 @@
 use mathlib.Core.Path.{_≡_, refl, sym, _∙_, ap, ap₂}
 use mathlib.Core.Bool.{Bool, true, false, cond}
 use mathlib.Core.List.{List, [], _∷_, _++_, append-nil}
-use Prim.Native.Nat.{ℕ, _+_, _-_, _*_, _<_, _≤_, min}
+use Prim.Native.Nat.{ℕ, zero, suc, _+_, _-_, _*_, _<_, _≤_, min}
 use native.Mathlib.Omega.{arith}
 use lib.Dec.{leb}
 use borrow.Author.Tests.{leb-true}
 use lib.ListN.{length, drop, length-drop, length-append}
 use lib.Seq.{sets, sets-eq}
 use Rattle.meaning.specs.Answers as meaning
-use Rattle.meaning.specs.Opening.{Opened, openText}
-use Rattle.meaning.specs.Sheet.{refusalLine, cleanLine, countsLine, sheet, lentSheet, lentLength}
+use Rattle.refusals.specs.Numbers.{torn}
+use Rattle.meaning.specs.Opening.{Opened, Counts, countsOf, openText}
+use Rattle.meaning.specs.Sheet.{refusalLine, firstLine, cleanLine, sheet, lentSheet, lentLength}
 use Rattle.trace.specs.Whole.{numberOrZero}
 use Rattle.trace.proofs.Lending.{lend-short, lend-fits}
 use Rattle.rules.specs.declared.Outcome.{Outcome}
 use Rattle.rules.specs.declared.Watch.{Watch}
-use Rattle.rules.specs.Watches.{watchOf, outcomeOf}
+use Rattle.rules.specs.Watches.{watchOf, shownOutcome}
 use Rattle.rules.proofs.Overlay.{sets-behind}
-use Rattle.sheet.specs.Lines.{Run, run, Ran, runOver, lastLine, closed, firstLine, isRefused, sheetOf}
-use Rattle.sheet.specs.Items.{outcomeLine, refusedOutcome}
-use Rattle.sheet.proofs.RunSteps.{same-place}
+use Rattle.sheet.specs.Lines.{Run, run, Ran, runOver, lastLine, closed, isRefused, sheetOf}
 use Rattle.sheet.proofs.Lengths as lengths
 use Rattle.sheet.proofs.Printed.{sheet-printed}
 
@@ -27,66 +26,56 @@ use Rattle.sheet.proofs.Printed.{sheet-printed}
 
 module _ (t at left : ℕ) (out new : List ℕ) (r : ℕ) where
   abbrev Last : Type 0
-  Last = ((rest : List ℕ) → left ≡ length rest → (new ≡ sets out at (lastLine t rest)) × (r ≡ at + length (lastLine t rest))) × (r ≤ at + 64)
+  Last = (new ≡ sets out at (lastLine t left)) × (r ≡ at + length (lastLine t left)) × (r ≤ at + 64)
+
+  -- it is found to be this line
+  last-is : (line : List ℕ) → line ≡ lastLine t left → new ≡ sets out at line → r ≡ at + length line → length line ≤ 64 → Last
+  last-is line q e f l = (e ∙ ap (sets out at) q, f ∙ ap (λ (x : List ℕ). at + length x) q, omega (arith, f, l))
 
   pub last-clean : left ≡ 0 → new ≡ sets out at (cleanLine t) → r ≡ at + length (cleanLine t) → length (cleanLine t) ≤ 64 → Last
-  last-clean z e f l = (by, omega (arith, f, l))
-    where
-      by : (rest : List ℕ) → left ≡ length rest → (new ≡ sets out at (lastLine t rest)) × (r ≡ at + length (lastLine t rest))
-      by [] d = (e, f)
-      by (b ∷ rest) d = absurd (omega (arith, d, z))
+  last-clean z = last-is (cleanLine t) (ap (lastLine t) (sym z))
 
-  pub last-torn : (left ≡ 0 → ⊥) → new ≡ sets out at (refusalLine 13 (meaning.byte t)) → r ≡ at + length (refusalLine 13 (meaning.byte t))
-      → length (refusalLine 13 (meaning.byte t)) ≤ 64 → Last
-  last-torn z e f l = (by, omega (arith, f, l))
+  pub last-torn : (left ≡ 0 → ⊥) → new ≡ sets out at (refusalLine torn (t ∷ [])) → r ≡ at + length (refusalLine torn (t ∷ []))
+      → length (refusalLine torn (t ∷ [])) ≤ 64 → Last
+  last-torn z = last-is (refusalLine torn (t ∷ [])) (some-left left z)
     where
-      by : (rest : List ℕ) → left ≡ length rest → (new ≡ sets out at (lastLine t rest)) × (r ≡ at + length (lastLine t rest))
-      by [] d = absurd (z d)
-      by (b ∷ rest) d = (e ∙ ap (sets out at) (same-place 13 t), f ∙ ap (λ (l : List ℕ). at + length l) (same-place 13 t))
+      some-left : (n : ℕ) → (n ≡ 0 → ⊥) → refusalLine torn (t ∷ []) ≡ lastLine t n
+      some-left zero h = absurd (h refl)
+      some-left (suc n) h = refl
 
 -- ---- the first line
 
 -- the outcome was found to be s
-pub first-put : (o s : Outcome) (out new : List ℕ) (r : ℕ) → o ≡ s → new ≡ sets out 0 (outcomeLine s) → r ≡ 0 + length (outcomeLine s)
-    → length (outcomeLine s) ≤ 128 → (new ≡ sets out 0 (outcomeLine o)) × (r ≡ length (outcomeLine o)) × (r ≤ 128)
+pub first-put : (o s : Outcome) (out new : List ℕ) (r : ℕ) → o ≡ s → new ≡ sets out 0 (firstLine (shownOutcome s)) → r ≡ 0 + length (firstLine (shownOutcome s))
+    → length (firstLine (shownOutcome s)) ≤ 128
+    → (new ≡ sets out 0 (firstLine (shownOutcome o))) × (r ≡ length (firstLine (shownOutcome o))) × (r ≤ 128)
 first-put o s out new r d e f l = rw d (e, omega (arith, f), omega (arith, f, l))
 
-first-line : (a : meaning.Answer Opened) → outcomeLine (outcomeOf a) ≡ firstLine a
-unfolding outcomeOf countsLine
-first-line (meaning.value o) = refl
-first-line (meaning.refused n (meaning.byte p)) = refl
-first-line (meaning.refused n (meaning.letterOf m l)) = refl
-first-line (meaning.refused n (meaning.tick t)) = same-place n t
+counts-refused : (a : meaning.Answer Opened) → isRefused (countsOf a) ≡ isRefused a
+unfolding countsOf
+counts-refused (meaning.value o) = refl
+counts-refused (meaning.refused n p) = refl
 
-first-refused : (a : meaning.Answer Opened) → refusedOutcome (outcomeOf a) ≡ isRefused a
-unfolding outcomeOf
-first-refused (meaning.value o) = refl
-first-refused (meaning.refused n (meaning.byte p)) = refl
-first-refused (meaning.refused n (meaning.letterOf m l)) = refl
-first-refused (meaning.refused n (meaning.tick t)) = refl
+-- x is what opening was said to answer
+module _ (a : meaning.Answer Opened) (x : meaning.Answer Counts) (d : x ≡ countsOf a) where
+  pub first-told : (b : Bool) → b ≡ isRefused x → b ≡ isRefused a
+  first-told b e = e ∙ ap isRefused d ∙ counts-refused a
 
-module _ (a : meaning.Answer Opened) (o : Outcome) (d : o ≡ outcomeOf a) where
-  is-first : outcomeLine o ≡ firstLine a
-  is-first = ap outcomeLine d ∙ first-line a
+  pub first-printed : (out new : List ℕ) → new ≡ sets out 0 (firstLine x) → new ≡ sets out 0 (firstLine (countsOf a))
+  first-printed out new e = e ∙ ap (λ (y : meaning.Answer Counts). sets out 0 (firstLine y)) d
 
-  pub first-told : (b : Bool) → b ≡ refusedOutcome o → b ≡ isRefused a
-  first-told b e = e ∙ ap refusedOutcome d ∙ first-refused a
-
-  pub first-printed : (out new : List ℕ) → new ≡ sets out 0 (outcomeLine o) → new ≡ sets out 0 (firstLine a)
-  first-printed out new e = e ∙ ap (sets out 0) is-first
-
-  pub first-long : (r : ℕ) → r ≡ length (outcomeLine o) → r ≡ length (firstLine a)
-  first-long r e = e ∙ ap length is-first
+  pub first-long : (r : ℕ) → r ≡ length (firstLine x) → r ≡ length (firstLine (countsOf a))
+  first-long r e = e ∙ ap (λ (y : meaning.Answer Counts). length (firstLine y)) d
 
 -- ---- the sheet
 
-module _ (text records out first : List ℕ) (n : ℕ) (b : Bool) (e : first ≡ sets out 0 (firstLine (openText text))) (f : n ≡ length (firstLine (openText text)))
+module _ (text records out first : List ℕ) (n : ℕ) (b : Bool) (e : first ≡ sets out 0 (firstLine (countsOf (openText text)))) (f : n ≡ length (firstLine (countsOf (openText text))))
     (d : b ≡ isRefused (openText text)) where
   abbrev Sheet : (new : List ℕ) → (r : ℕ) → Type 0
   Sheet new r = (new ≡ sets out 0 (sheet text records)) × (r ≡ length (sheet text records))
 
   abbrev line : List ℕ
-  line = firstLine (openText text)
+  line = firstLine (countsOf (openText text))
 
   abbrev ran : Ran
   ran = runOver (run (watchOf (openText text)) 0) records
@@ -114,25 +103,22 @@ module _ (text records out first : List ℕ) (n : ℕ) (b : Bool) (e : first ≡
       pub sheet-ended : ended ≡ true → Sheet new r
       sheet-ended t =
           behind (x .printed) new r
-          (opened (x .printed) (sym (append-nil (x .printed)) ∙ ap (λ (z : Bool). x .printed ++ cond z [] (lastLine (x .after .watch .ticks) (x .left))) (sym t ∙ c))) p q
+          (opened (x .printed) (sym (append-nil (x .printed)) ∙ ap (λ (z : Bool). x .printed ++ cond z [] (lastLine (x .after .watch .ticks) (length (x .left)))) (sym t ∙ c))) p q
 
       -- the ticks of the run u, and the bytes that are left
       pub sheet-closed : ended ≡ false → (u : Run) (used : ℕ) → u ≡ x .after → drop used records ≡ x .left → (last : List ℕ) (k : ℕ)
-          → ((rest : List ℕ) → length records - used ≡ length rest → (last ≡ sets new r (lastLine (u .watch .ticks) rest)) × (k ≡ r + length (lastLine (u .watch .ticks) rest)))
-          → Sheet last k
-      sheet-closed t u used i j last k told =
-          let left = drop used records in
-          let h = told left (sym (length-drop used records)) in
-          let l = lastLine (u .watch .ticks) left in
+          → last ≡ sets new r (lastLine (u .watch .ticks) (length records - used)) → k ≡ r + length (lastLine (u .watch .ticks) (length records - used)) → Sheet last k
+      sheet-closed t u used i j last k g h =
+          let l = lastLine (u .watch .ticks) (length records - used) in
           let o = length-append (x .printed) l in
           behind (x .printed ++ l) last k
           (opened (x .printed ++ l)
-          (ap₂ (λ (s : Run) (m : List ℕ). x .printed ++ lastLine (s .watch .ticks) m) i j
-          ∙ ap (λ (z : Bool). x .printed ++ cond z [] (lastLine (x .after .watch .ticks) (x .left))) (sym t ∙ c)))
-          (h .0 ∙ ap (λ (m : List ℕ). sets m r l) p ∙ sets-behind first n r (x .printed) l (x .printed ++ l) q refl) (omega (arith, h .1, q, o))
+          (ap₂ (λ (s : Run) (n : ℕ). x .printed ++ lastLine (s .watch .ticks) n) i (sym (length-drop used records) ∙ ap length j)
+          ∙ ap (λ (z : Bool). x .printed ++ cond z [] (lastLine (x .after .watch .ticks) (length (x .left)))) (sym t ∙ c)))
+          (g ∙ ap (λ (m : List ℕ). sets m r l) p ∙ sets-behind first n r (x .printed) l (x .printed ++ l) q refl) (omega (arith, h, q, o))
 
 -- the sheet is short, behind a first line that is
-pub sheet-bound : (text records : List ℕ) (n at : ℕ) → at ≡ length (firstLine (openText text)) → at ≤ 128 → n ≡ length (sheet text records)
+pub sheet-bound : (text records : List ℕ) (n at : ℕ) → at ≡ length (firstLine (countsOf (openText text))) → at ≤ 128 → n ≡ length (sheet text records)
     → n ≤ 192 + 64 * min (length records) 1000000
 sheet-bound text records n at p q e = let h = lengths.sheet-short text records (omega (arith, p, q)) in omega (arith, e, h)
 

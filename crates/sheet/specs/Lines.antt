@@ -7,10 +7,11 @@ use lib.ListN.{length, drop}
 use Rattle.lexer.specs.Bytes.{bytes}
 use Rattle.trace.specs.Answer.{Answer, value, refused}
 use Rattle.trace.specs.Record.{Item, word, end, readRecord}
+use Rattle.refusals.specs.Numbers.{torn}
 use Rattle.meaning.specs.Answers as meaning
-use Rattle.meaning.specs.Opening.{Opened}
+use Rattle.meaning.specs.Opening.{Opened, countsOf}
 use Rattle.meaning.specs.Calls as calls
-use Rattle.meaning.specs.Sheet.{decimal, hexadecimal, line, refusalLine, countsLine, cleanLine}
+use Rattle.meaning.specs.Sheet.{decimal, hexadecimal, line, refusalLine, firstLine, cleanLine}
 use Rattle.rules.specs.declared.Watch.{Watch}
 use Rattle.rules.specs.Watches.{watchOf}
 use Rattle.monitor.specs.Calls.{replyOf, watchAfter}
@@ -52,13 +53,13 @@ printing p x = ran (p ++ x .printed) (x .after) (x .left) (x .ended)
 abbrev pub onReply : calls.Reply → Run → (rest : List ℕ) → (w n : ℕ) → (Run → List ℕ → Ran) → Ran
 onReply calls.ok s rest w n next = printing (okLine (s .watch .ticks) w) (next (run (watchAfter (s .watch) w) w) (drop n rest))
 onReply (calls.bad m) s rest w n next = ran (badLine (s .watch .ticks) w m) (run (watchAfter (s .watch) w) (s .before)) rest true
-onReply (calls.refused k) s rest w n next = ran (refusalLine k (meaning.tick (s .watch .ticks))) (run (watchAfter (s .watch) w) (s .before)) rest true
+onReply (calls.refused k p) s rest w n next = ran (refusalLine k (s .watch .ticks ∷ [])) (run (watchAfter (s .watch) w) (s .before)) rest true
 
 -- what was read: at the end of the bytes, or where they cut a record short, more may come; an idle byte ends the sheet
 abbrev pub onRead : Answer Item → Run → (rest : List ℕ) → (Run → List ℕ → Ran) → Ran
 onRead (value (word w n)) s rest next = onReply (replyOf (s .watch) w) s rest w n next
 onRead (value end) s rest next = ran [] s rest false
-onRead (refused k p) s rest next = cond (eqb k 13) (ran [] s rest false) (ran (refusalLine k (meaning.tick (s .watch .ticks))) s rest true)
+onRead (refused k p) s rest next = cond (eqb k 13) (ran [] s rest false) (ran (refusalLine k (s .watch .ticks ∷ [])) s rest true)
 
 -- so many records at most
 unfoldable pub runOn : ℕ → Run → List ℕ → Ran
@@ -69,23 +70,18 @@ runOn (suc k) s rest = onRead (readRecord rest (s .before)) s rest (runOn k)
 abbrev pub runOver : Run → List ℕ → Ran
 runOver s rest = runOn (length rest) s rest
 
--- the last line where no more bytes come: `clean N`, or a record is cut short
-abbrev pub lastLine : (t : ℕ) → (rest : List ℕ) → List ℕ
-lastLine t [] = cleanLine t
-lastLine t (b ∷ rest) = refusalLine 13 (meaning.tick t)
+-- the last line where no more bytes come and so many are left: `clean N`, or a record is cut short
+abbrev pub lastLine : (t left : ℕ) → List ℕ
+lastLine t zero = cleanLine t
+lastLine t (suc n) = refusalLine torn (t ∷ [])
 
 abbrev pub closed : Ran → List ℕ
-closed x = x .printed ++ cond (x .ended) [] (lastLine (x .after .watch .ticks) (x .left))
+closed x = x .printed ++ cond (x .ended) [] (lastLine (x .after .watch .ticks) (length (x .left)))
 
--- the first line: both counts, or the refusal
-abbrev pub firstLine : meaning.Answer Opened → List ℕ
-firstLine (meaning.value o) = countsLine o
-firstLine (meaning.refused number place) = refusalLine number place
-
-abbrev pub isRefused : meaning.Answer Opened → Bool
+abbrev pub isRefused : {A : Type 0} → meaning.Answer A → Bool
 isRefused (meaning.value o) = false
 isRefused (meaning.refused number place) = true
 
 -- the sheet: "for a refused text that line is the whole sheet"
 abbrev pub sheetOf : meaning.Answer Opened → List ℕ → List ℕ
-sheetOf a records = firstLine a ++ cond (isRefused a) [] (closed (runOver (run (watchOf a) 0) records))
+sheetOf a records = firstLine (countsOf a) ++ cond (isRefused a) [] (closed (runOver (run (watchOf a) 0) records))

@@ -21,16 +21,15 @@ ghost use lib.Seq.{sets};
 ghost use mathlib.Core.List.{List};
 ghost use Rattle.trace.specs.Record.{written};
 ghost use Rattle.trace.specs.Whole.{lend, numberOrZero};
-ghost use Rattle.meaning.specs.Sheet.{sheet, lentSheet, lentLength};
-ghost use Rattle.sheet.specs.Lines.{run, runOver, lastLine, firstLine, isRefused};
-ghost use Rattle.sheet.specs.Items.{outcomeLine, refusedOutcome};
-ghost use Rattle.meaning.specs.Opening.{openText};
-ghost use Rattle.rules.specs.Watches.{watchOf};
+ghost use Rattle.meaning.specs.Sheet.{firstLine, sheet, lentSheet, lentLength};
+ghost use Rattle.sheet.specs.Lines.{run, runOver, lastLine, isRefused};
+ghost use Rattle.meaning.specs.Opening.{countsOf, openText};
+ghost use Rattle.rules.specs.Watches.{watchOf, shownOutcome};
 
 // The last line where no more bytes come.
 fn put_last(ticks: u64, left: usize, out: &mut [u8], at: usize) -> usize
     requires { ⌜ at < 4294967296 ⌝ }
-    ensures { λ r. ⌜ ((rest : List ℕ) → left ≡ length rest → (now (out .exit) ≡ sets (now (out .entry)) at (lastLine ticks rest)) × (r ≡ at + length (lastLine ticks rest))) × (r ≤ at + 64) ⌝ }
+    ensures { λ r. ⌜ (now (out .exit) ≡ sets (now (out .entry)) at (lastLine ticks left)) × (r ≡ at + length (lastLine ticks left)) × (r ≤ at + 64) ⌝ }
 {
     if left == 0 {
         return put_clean(ticks, out, at);
@@ -47,7 +46,7 @@ pub struct Begun {
 
 // The line of an opening.
 fn put_first(outcome: Outcome, out: &mut [u8]) -> usize
-    ensures { λ r. ⌜ (now (out .exit) ≡ sets (now (out .entry)) 0 (outcomeLine outcome)) × (r ≡ length (outcomeLine outcome)) × (r ≤ 128) ⌝ }
+    ensures { λ r. ⌜ (now (out .exit) ≡ sets (now (out .entry)) 0 (firstLine (shownOutcome outcome))) × (r ≡ length (firstLine (shownOutcome outcome))) × (r ≤ 128) ⌝ }
 {
     match outcome {
         Outcome::AtByte(number, place) => put_refusal(number, place as u64, out, 0),
@@ -64,7 +63,7 @@ fn put_first(outcome: Outcome, out: &mut [u8]) -> usize
 
 // Whether a text was turned away.
 fn refused(outcome: Outcome) -> bool
-    ensures { λ r. ⌜ r ≡ refusedOutcome outcome ⌝ }
+    ensures { λ r. ⌜ r ≡ isRefused (shownOutcome outcome) ⌝ }
 {
     match outcome {
         Outcome::AtByte(_, _) => true,
@@ -75,7 +74,7 @@ fn refused(outcome: Outcome) -> bool
 
 // Opens a rule text and prints the sheet's first line, as far as the range reaches.
 pub fn begin(text: &[u8], out: &mut [u8]) -> Begun
-    ensures { λ r. ⌜ (now (out .exit) ≡ sets (now (out .entry)) 0 (firstLine (openText (now (text .entry))))) × (r .at ≡ length (firstLine (openText (now (text .entry)))))
+    ensures { λ r. ⌜ (now (out .exit) ≡ sets (now (out .entry)) 0 (firstLine (countsOf (openText (now (text .entry)))))) × (r .at ≡ length (firstLine (countsOf (openText (now (text .entry))))))
         × (r .ended ≡ isRefused (openText (now (text .entry)))) × (r .watch ≡ watchOf (openText (now (text .entry)))) × (r .at ≤ 128) ⌝ }
 {
     let start = open(text);
@@ -100,7 +99,7 @@ pub fn run(watch: Watch, before: u64, records: &[u8], out: &mut [u8]) -> Ran
 
 // Prints the last line after so many ticks, where no more bytes come and so many are left.
 pub fn finish(ticks: u64, left: usize, out: &mut [u8]) -> usize
-    ensures { λ r. ⌜ ((rest : List ℕ) → left ≡ length rest → (now (out .exit) ≡ sets (now (out .entry)) 0 (lastLine ticks rest)) × (r ≡ length (lastLine ticks rest))) ⌝ }
+    ensures { λ r. ⌜ (now (out .exit) ≡ sets (now (out .entry)) 0 (lastLine ticks left)) × (r ≡ length (lastLine ticks left)) ⌝ }
 {
     put_last(ticks, left, out, 0)
 }

@@ -4,19 +4,17 @@ use super::page::put_decimal;
 use super::page::put_text;
 use super::page::put_word;
 ghost use mathlib.Core.Path.{_≡_};
-ghost use Prim.Native.Nat.{ℕ, _+_, _<_, _≤_};
-ghost use mathlib.Core.List.{List, [], _∷_};
+ghost use Prim.Native.Nat.{_+_, _<_, _≤_};
+ghost use mathlib.Core.List.{[], _∷_};
 ghost use lib.ListN.{length};
 ghost use lib.Seq.{sets};
-ghost use Rattle.lexer.specs.Bytes.{bytes};
-ghost use Rattle.meaning.specs.Answers.{byte, letterOf, tick};
-ghost use Rattle.meaning.specs.Sheet.{decimal, hexadecimal, line, refusalLine, cleanLine};
+ghost use Rattle.meaning.specs.Sheet.{refusalLine, countsLine, cleanLine};
 ghost use Rattle.sheet.specs.Lines.{okLine, badLine, tickFront};
 
 // A refusal with a number and one more: its byte, or its tick.
 pub(crate) fn put_refusal(number: u8, place: u64, out: &mut [u8], at: usize) -> usize
     requires { ⌜ at < 4294967296 ⌝ }
-    ensures { λ r. ⌜ (now (out .exit) ≡ sets (now (out .entry)) at (refusalLine number (byte place))) × (r ≡ at + length (refusalLine number (byte place))) × (length (refusalLine number (byte place)) ≤ 64) ⌝ }
+    ensures { λ r. ⌜ (now (out .exit) ≡ sets (now (out .entry)) at (refusalLine number (place ∷ []))) × (r ≡ at + length (refusalLine number (place ∷ []))) × (length (refusalLine number (place ∷ [])) ≤ 64) ⌝ }
 {
     let named = put_text(b"refused ", out, at);
     let numbered = put_decimal(number as u64, out, named);
@@ -34,7 +32,7 @@ pub(crate) fn put_refusal_at(
     at: usize,
 ) -> usize
     requires { ⌜ at < 4294967296 ⌝ }
-    ensures { λ r. ⌜ (now (out .exit) ≡ sets (now (out .entry)) at (refusalLine number (letterOf monitor letter))) × (r ≡ at + length (refusalLine number (letterOf monitor letter))) × (length (refusalLine number (letterOf monitor letter)) ≤ 128) ⌝ }
+    ensures { λ r. ⌜ (now (out .exit) ≡ sets (now (out .entry)) at (refusalLine number (monitor ∷ letter ∷ []))) × (r ≡ at + length (refusalLine number (monitor ∷ letter ∷ []))) × (length (refusalLine number (monitor ∷ letter ∷ [])) ≤ 128) ⌝ }
 {
     let named = put_text(b"refused ", out, at);
     let numbered = put_decimal(number as u64, out, named);
@@ -48,7 +46,7 @@ pub(crate) fn put_refusal_at(
 // Both counts of an opened text.
 pub(crate) fn put_counts(rows: u64, letters: u64, out: &mut [u8], at: usize) -> usize
     requires { ⌜ at < 4294967296 ⌝ }
-    ensures { λ r. ⌜ (now (out .exit) ≡ sets (now (out .entry)) at (line (bytes "rows" ∷ decimal rows ∷ bytes "letters" ∷ decimal letters ∷ []))) × (r ≡ at + length (line (bytes "rows" ∷ decimal rows ∷ bytes "letters" ∷ decimal letters ∷ []))) × (length (line (bytes "rows" ∷ decimal rows ∷ bytes "letters" ∷ decimal letters ∷ [])) ≤ 64) ⌝ }
+    ensures { λ r. ⌜ (now (out .exit) ≡ sets (now (out .entry)) at (countsLine (record { rows = rows; letters = letters }))) × (r ≡ at + length (countsLine (record { rows = rows; letters = letters }))) × (length (countsLine (record { rows = rows; letters = letters })) ≤ 64) ⌝ }
 {
     let named = put_text(b"rows ", out, at);
     let counted = put_decimal(rows, out, named);

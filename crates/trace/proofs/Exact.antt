@@ -9,7 +9,8 @@ use native.Mathlib.Omega.{arith}
 use lib.Dec.{eqb, ltb}
 use lib.ListN.{length, length-append, List·getD-append}
 use borrow.Author.Tests.{eqb-true, lt-ltb, le-ltb, ltb-true, ltb-false}
-use Rattle.trace.specs.Answer.{value, refused, torn, idleByte}
+use Rattle.refusals.specs.Numbers.{torn, idleByte}
+use Rattle.trace.specs.Answer.{value, refused}
 use Rattle.trace.specs.Record.{Item, word, end, bit, byte, count, givenFor, newByte, merged, idleAt, idle, judged, readRecord}
 use Rattle.trace.proofs.Bits.{bit-cases, count-mono}
 use Rattle.trace.proofs.Digits.{number-ext}

@@ -8,7 +8,8 @@ use native.Mathlib.Omega.{arith}
 use denote.Enum.Declared.{tagOf}
 use types.Run.{OneOf}
 use borrow.Author.Tests.{lt-ltb, le-ltb}
-use Rattle.trace.specs.Answer.{Answer, value, refused, shortBin}
+use Rattle.refusals.specs.Numbers.{shortBin}
+use Rattle.trace.specs.Answer.{Answer, value, refused}
 use Rattle.trace.specs.Whole.{counted, lend, lendAnswer}
 use Rattle.trace.specs.Shown.{shownTrace}
 use Rattle.trace.specs.declared.TraceRead.{TraceRead}

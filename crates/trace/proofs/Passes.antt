@@ -10,7 +10,8 @@ use lib.ListN.{length, getD, take, drop, set, length-drop, length-set, length-ap
 use lib.Seq.{drop-drop, drop-cons, take-suc-set, drop-set-lt, length-take-le, take-at, drop-at}
 use denote.Enum.Declared.{tagOf}
 use types.Run.{OneOf}
-use Rattle.trace.specs.Answer.{Answer, value, refused, torn, idleByte}
+use Rattle.refusals.specs.Numbers.{torn, idleByte}
+use Rattle.trace.specs.Answer.{Answer, value, refused}
 use Rattle.trace.specs.Record.{Item, word, end, readRecord, written}
 use Rattle.trace.specs.Whole.{writeAll, writeTrace, after, readRest, readTrace, counted, lendAnswer}
 use Rattle.trace.specs.Shown.{shownRead}

@@ -7,7 +7,8 @@ use native.Mathlib.Nat.{suc-ne-zero}
 use lib.Dec.{ltb}
 use lib.ListN.{length, getD, take, drop}
 use borrow.Author.Tests.{lt-ltb, le-ltb}
-use Rattle.trace.specs.Answer.{Answer, value, refused, torn, idleByte}
+use Rattle.refusals.specs.Numbers.{torn, idleByte}
+use Rattle.trace.specs.Answer.{Answer, value, refused}
 use Rattle.trace.specs.Record.{Item, word, end, count, merged, idle, judged, readRecord}
 use Rattle.trace.specs.Whole.{placed, readAt}
 use Rattle.trace.specs.Shown.{shownRead, mergedOf}

@@ -12,6 +12,7 @@ use lib.ListN.{length, getD, take, drop, replicate, length-append, take-append-d
 use lib.Seq.{getD-at, take-suc, length-take-le}
 use borrow.Author.Tests.{eqb-true, eqb-false, ne-eqb, le-ltb, ltb-false}
 use Rattle.trace.specs.Answer.{value}
+use Rattle.trace.specs.Whole.{Bytes}
 use Rattle.trace.specs.Record.{word, bit, byte, count, picked, recordOf, differs, changes, written, givenFor, newByte, merged, idleAt, idle, judged, readRecord}
 use Rattle.trace.proofs.Bits.{bit-cases, count-mono}
 use Rattle.trace.proofs.Clash.{clash}
@@ -85,10 +86,6 @@ module _ (before w : ℕ) (t : List ℕ) where
       rw (enough, none-idle 8 (le-refl 8), merged-is h) (ap (λ (n : ℕ). value (word w n)) (one-add (count 8 map) ∙ ap suc (sym (picked-length 8 map w))))
 
 -- ---- what reads as a word is the writer's record
-
--- 01: bytes. Past the end of the list stands 0.
-abbrev pub Bytes : List ℕ → Type 0
-Bytes s = (i : ℕ) → getD s i 0 < 256
 
 module _ (before map : ℕ) (given : List ℕ) (bytes : Bytes given) (small : map < 256) (whole : count 8 map ≤ length given)
     (changed : idle 8 before map given ≡ false) where

@@ -1,19 +1,19 @@
 -- Whole traces: reading on record by record, there and back, and no two traces that read alike. Assumes nothing.
 use mathlib.Core.Path.{_≡_, refl, sym, ap, ap₂, _∙_, subst}
 use mathlib.Core.List.{List, [], _∷_, _++_}
-use Prim.Native.Nat.{ℕ, zero, suc, _+_, _≤_, _<_, _^_}
+use Prim.Native.Nat.{ℕ, zero, suc, _+_, _≤_, _<_}
 use native.Mathlib.Nat.{le-refl}
 use native.Mathlib.Omega.{arith}
 use lib.Dec.{ltb}
-use lib.ListN.{length, getD, drop, length-drop}
+use lib.ListN.{length, drop, length-drop}
 use lib.Seq.{drop-append-seam, getD-drop}
 use borrow.Author.Tests.{ltb-false}
 use Rattle.trace.specs.Answer.{Answer, value, refused}
 use Rattle.trace.specs.Record.{Item, word, end, count, merged, idle, readRecord, written}
-use Rattle.trace.specs.Whole.{writeAll, writeTrace, after, goOn, readOn, readRest, readTrace}
+use Rattle.trace.specs.Whole.{Bytes, Words, writeAll, writeTrace, after, goOn, readOn, readRest, readTrace}
 use Rattle.trace.proofs.Clash.{clash}
 use Rattle.trace.proofs.Exact.{end-exactly}
-use Rattle.trace.proofs.RoundTrip.{Bytes, judged-word, read-written, read-canonical}
+use Rattle.trace.proofs.RoundTrip.{judged-word, read-written, read-canonical}
 
 -- ---- a step
 
@@ -69,9 +69,6 @@ module _ (at : ℕ) (s : List ℕ) (before : ℕ) where
   rest-refused number place e = step-by (refused number place) e
 
 -- ---- there and back
-
-abbrev pub Words : List ℕ → Type 0
-Words ws = (i : ℕ) → getD ws i 0 < 2 ^ 64
 
 read-all : (ws : List ℕ) (at before : ℕ) → Words ws → readRest at (writeAll before ws) before ≡ value ws
 unfolding writeAll

@@ -4,7 +4,8 @@ use mathlib.Core.List.{List, [], _∷_, _++_}
 use Prim.Native.Nat.{ℕ, zero, suc, _+_, _*_, _/_, _%_, _^_}
 use lib.Dec.{ltb, eqb}
 use lib.ListN.{length, getD, replicate}
-use Rattle.trace.specs.Answer.{Answer, value, refused, torn, idleByte}
+use Rattle.refusals.specs.Numbers.{torn, idleByte}
+use Rattle.trace.specs.Answer.{Answer, value, refused}
 
 -- ---- digits
 

@@ -1,7 +1,8 @@
 -- What each answer of the code says in 01's terms: its value, or its number and place. Assumes nothing.
 use mathlib.Core.Bool.{Bool, true, false}
 use Prim.Native.Nat.{ℕ}
-use Rattle.trace.specs.Answer.{Answer, value, refused, torn, idleByte, shortBin}
+use Rattle.refusals.specs.Numbers.{torn, idleByte, shortBin}
+use Rattle.trace.specs.Answer.{Answer, value, refused}
 use Rattle.trace.specs.Record.{Item, word, end}
 use Rattle.trace.specs.declared.Read.{Read}
 use Rattle.trace.specs.declared.Read.the-variants as read

@@ -1,10 +1,11 @@
 -- Traces: records one behind the other (01, "Wire records"), and lists put into lent ones. Assumes nothing.
 use mathlib.Core.Bool.{Bool, true, false}
 use mathlib.Core.List.{List, [], _∷_, _++_}
-use Prim.Native.Nat.{ℕ, zero, suc, _+_}
+use Prim.Native.Nat.{ℕ, zero, suc, _+_, _^_, _<_}
 use lib.Dec.{ltb}
-use lib.ListN.{length, drop}
-use Rattle.trace.specs.Answer.{Answer, value, refused, torn, shortBin}
+use lib.ListN.{length, getD, drop}
+use Rattle.refusals.specs.Numbers.{torn, shortBin}
+use Rattle.trace.specs.Answer.{Answer, value, refused}
 use Rattle.trace.specs.Record.{Item, word, end, readRecord, written}
 
 -- ---- reading at a position of a trace
@@ -23,6 +24,13 @@ unfoldable pub readAt : List ℕ → ℕ → ℕ → Answer Item
 readAt trace at before = unlessPast (ltb (length trace) at) at (readRecord (drop at trace) before)
 
 -- ---- whole traces
+
+-- A list of bytes, and one of words. Past the end of a list stands 0.
+abbrev pub Bytes : List ℕ → Type 0
+Bytes s = (i : ℕ) → getD s i 0 < 256
+
+abbrev pub Words : List ℕ → Type 0
+Words ws = (i : ℕ) → getD ws i 0 < 2 ^ 64
 
 -- the records of a list of words, the first after the word `before`
 unfoldable pub writeAll : ℕ → List ℕ → List ℕ

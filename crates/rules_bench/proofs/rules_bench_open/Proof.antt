@@ -2,7 +2,7 @@
 -- Assumes nothing.
 use mathlib.Core.Path.{_∙_, ap}
 use borrow.Author.Needs.{needs}
-use Rattle.rules_bench.specs.Packed.{shown}
+use Rattle.rules_bench.specs.Packed.{inOneWord}
 use Rattle.rules_bench.proofs.rules_bench_open.Statement.{statement}
 use Rattle.rules_bench.proofs.rules_bench_open.Tie as tie
 
@@ -13,7 +13,7 @@ shown-requires : tie.Need-shown-requires
 shown-requires c κs = search needs
 
 returns : tie.Need-returns
-returns c = c .shown .ensures ∙ ap shown (c .before .«open» .ensures .0)
+returns c = c .shown .ensures ∙ ap inOneWord (c .before .«open» .ensures .0)
 
 pub rules-bench-open-spec : {M : Type 1} → statement M
 rules-bench-open-spec = tie.close (tie.spec open-requires shown-requires returns)

@@ -2,7 +2,9 @@
 -- Assumes nothing.
 use mathlib.Core.Path.{_∙_, sym, ap}
 use borrow.Author.Needs.{needs}
-use Rattle.rules_bench.specs.Packed.{shown}
+use Rattle.rules.specs.declared.Outcome.{Outcome}
+use Rattle.rules.specs.Watches.{shownOutcome}
+use Rattle.rules_bench.specs.Packed.{inOneWord}
 use Rattle.rules_bench.proofs.shown.Statement.{statement}
 use Rattle.rules_bench.proofs.shown.Tie as tie
 
@@ -25,13 +27,13 @@ packed-requires-3 : tie.Need-packed-requires-3
 packed-requires-3 c κs = search needs
 
 returns : tie.Need-returns
-returns c = c .packed .ensures ∙ sym (ap shown (c .before .before .o .given .1))
+returns c = c .packed .ensures ∙ sym (ap (λ (o : Outcome). inOneWord (shownOutcome o)) (c .before .before .o .given .1))
 
 returns-2 : tie.Need-returns-2
-returns-2 c = c .packed2 .ensures ∙ sym (ap shown (c .before .before .o2 .given .1))
+returns-2 c = c .packed2 .ensures ∙ sym (ap (λ (o : Outcome). inOneWord (shownOutcome o)) (c .before .before .o2 .given .1))
 
 returns-3 : tie.Need-returns-3
-returns-3 c = c .packed3 .ensures ∙ sym (ap shown (c .before .before .o3 .given .1))
+returns-3 c = c .packed3 .ensures ∙ sym (ap (λ (o : Outcome). inOneWord (shownOutcome o)) (c .before .before .o3 .given .1))
 
 pub shown-spec : {M : Type 1} → statement M
 shown-spec =

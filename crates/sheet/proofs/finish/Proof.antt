@@ -11,7 +11,7 @@ same-length : tie.Need-same-length
 same-length c = search needs
 
 returns : tie.Need-returns
-returns c = λ rest e. let p = c .before .before .put-last .ensures .0 rest e in (p .0, omega (arith, p .1))
+returns c = let p = c .before .before .put-last .ensures in (p .0, omega (arith, p .1))
 
 pub finish-spec : {M : Type 1} → statement M
 finish-spec = tie.close (tie.spec put-last-requires same-length returns)

@@ -48,7 +48,7 @@ returns-3 c =
     let t = s .before .before .before .before .before .before in
     let r = s .run-from .ensures in
     let g = t .begin .ensures in
-    let q = sheet-closed _ _ _ _ _ _ (g .0) (g .1) (g .2) (s .before .before .before .if1 .left) _ (g .3) _ refl _ _ _ (r .2) (r .3) (r .4) (c .before .before .before .before .before .before .if2 .left) _ _ (r .0) (r .1) _ _ (p .put-last .ensures .0) in
+    let q = sheet-closed _ _ _ _ _ _ (g .0) (g .1) (g .2) (s .before .before .before .if1 .left) _ (g .3) _ refl _ _ _ (r .2) (r .3) (r .4) (c .before .before .before .before .before .before .if2 .left) _ _ (r .0) (r .1) _ _ (p .put-last .ensures .0) (p .put-last .ensures .1) in
     (q .0, q .1, sheet-bound _ _ _ _ (g .1) (g .4) (q .1))
 
 pub print-spec : {M : Type 1} → statement M

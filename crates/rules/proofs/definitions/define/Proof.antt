@@ -4,7 +4,7 @@ use native.Mathlib.Omega.{arith}
 use borrow.Author.Needs.{needs}
 use Rattle.rules.proofs.Declaring.{ready-names}
 use Rattle.rules.proofs.Defining.{body-given, cell-room, no-begin, no-body, no-end, definition-read}
-use Rattle.meaning.specs.Reading.{aDefine}
+use Rattle.meaning.specs.Names.{aDefine}
 use Rattle.rules.proofs.Bodies.{define-begins, define-declares}
 use Rattle.rules.proofs.definitions.define.Statement.{statement}
 use Rattle.rules.proofs.definitions.define.Tie as tie

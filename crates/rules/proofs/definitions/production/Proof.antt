@@ -4,7 +4,7 @@ use native.Mathlib.Omega.{arith}
 use borrow.Author.Needs.{needs}
 use Rattle.rules.proofs.Declaring.{ready-names}
 use Rattle.rules.proofs.Defining.{body-given, cell-room, no-begin, no-body, no-end, definition-read}
-use Rattle.meaning.specs.Reading.{aProduction}
+use Rattle.meaning.specs.Names.{aProduction}
 use Rattle.rules.proofs.Bodies.{expression-read, production-begins, production-declares}
 use Rattle.rules.proofs.definitions.production.Statement.{statement}
 use Rattle.rules.proofs.definitions.production.Tie as tie

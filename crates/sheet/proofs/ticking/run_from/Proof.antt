@@ -4,7 +4,7 @@ use Prim.Native.Nat.{_-_}
 use native.Mathlib.Omega.{arith}
 use lib.ListN.{length}
 use borrow.Author.Needs.{needs}
-use Rattle.meaning.specs.Answers.{byte}
+use mathlib.Core.List.{_∷_, []}
 use Rattle.meaning.specs.Sheet.{refusalLine}
 use Rattle.sheet.specs.Lines.{badLine}
 use Rattle.sheet.proofs.RunSteps.{Going, going-none, kept, kept-put, going-end, going-idle, going-refused, going-bad, going-few, going-ok, going-less}
@@ -43,7 +43,7 @@ put-refusal-requires c κs = search needs
 
 same-length-2 : tie.Need-same-length-2 Inv-loop μ-loop
 same-length-2 c =
-    kept-put (c .before .before .before .before .before .before .before .before .before .before .loop .inv) _ (refusalLine _ (byte _)) (c .before .before .put-refusal .ensures .0)
+    kept-put (c .before .before .before .before .before .before .before .before .before .before .loop .inv) _ (refusalLine _ (_ ∷ [])) (c .before .before .put-refusal .ensures .0)
 
 returns-2 : tie.Need-returns-2 Inv-loop μ-loop
 returns-2 c =
@@ -59,7 +59,7 @@ put-refusal-requires-2 c κs = search needs
 
 same-length-3 : tie.Need-same-length-3 Inv-loop μ-loop
 same-length-3 c =
-    kept-put (c .before .before .before .before .before .before .before .before .before .before .before .before .loop .inv) _ (refusalLine _ (byte _)) (c .before .before .put-refusal2 .ensures .0)
+    kept-put (c .before .before .before .before .before .before .before .before .before .before .before .before .loop .inv) _ (refusalLine _ (_ ∷ [])) (c .before .before .put-refusal2 .ensures .0)
 
 returns-3 : tie.Need-returns-3 Inv-loop μ-loop
 returns-3 c =

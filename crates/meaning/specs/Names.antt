@@ -1,0 +1,50 @@
+-- What a rule text declares and what it comes to: names and what they stand for, declarations, and the program. Assumes nothing.
+use mathlib.Core.List.{List, [], _∷_, _++_}
+use Prim.Native.Nat.{ℕ, _+_}
+use lib.ListN.{length}
+use Rattle.lexer.specs.Bytes.{Entry}
+use Rattle.meaning.specs.Expression.{Literal, Exp}
+
+-- What a name stands for. A production's name stands for a copy of its expression, so the expression has no names left in it.
+pub data Meaning : Type 0 where
+  anInput : (lo width : ℕ) → Meaning
+  aStore : (number width : ℕ) → Meaning
+  aDefine : List Literal → Meaning
+  aProduction : Exp → Meaning
+
+pub record Names : Type 0 where
+  pub declared : List (Entry Meaning)
+  -- how many wires of the word are taken
+  pub wires : ℕ
+  -- the first values of the stores
+  pub initial : List ℕ
+
+abbrev pub noNames : Names
+noNames = record { declared = []; wires = 0; initial = [] }
+
+pub data Declaration : Type 0 where
+  newInput : List ℕ → (width : ℕ) → Declaration
+  newStore : List ℕ → (width initial : ℕ) → Declaration
+  newDefine : List ℕ → List Literal → Declaration
+  newProduction : List ℕ → Exp → Declaration
+
+abbrev pub withName : List ℕ → Meaning → List (Entry Meaning) → List (Entry Meaning)
+withName s m es = record { spelling = s; meaning = m } ∷ es
+
+-- "Wires take the bits of a 64-bit word from bit 0 in order."
+unfoldable pub declare : Declaration → Names → Names
+declare (newInput s width) ns =
+    record { declared = withName s (anInput (ns .wires) width) (ns .declared); wires = ns .wires + width; initial = ns .initial }
+declare (newStore s width v) ns =
+    record { declared = withName s (aStore (length (ns .initial)) width) (ns .declared); wires = ns .wires; initial = ns .initial ++ (v ∷ []) }
+declare (newDefine s ls) ns = record { declared = withName s (aDefine ls) (ns .declared); wires = ns .wires; initial = ns .initial }
+declare (newProduction s e) ns = record { declared = withName s (aProduction e) (ns .declared); wires = ns .wires; initial = ns .initial }
+
+-- What a text comes to: the number of wires, the stores' first values, and the monitors.
+pub record Program : Type 0 where
+  pub wires : ℕ
+  pub initial : List ℕ
+  pub monitors : List Exp
+
+abbrev pub programOf : Names → List Exp → Program
+programOf ns ms = record { wires = ns .wires; initial = ns .initial; monitors = ms }

@@ -1,0 +1,2 @@
+-- The numbers of refusals, once for records, tokens and rule texts.
+pub mod Numbers

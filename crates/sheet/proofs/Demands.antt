@@ -1,0 +1,124 @@
+-- The demands on the line watch, as statements, each with the theorem that proves it. Definitions stand in specs/, proofs where a citation names them; docs/PROOF.md says
+-- each statement in words. Assumes nothing.
+use mathlib.Core.Path.{_≡_, _∙_, sym, subst}
+use mathlib.Core.Logic.{_↔_}
+use mathlib.Core.List.{List, _++_, map}
+use Prim.Native.Nat.{ℕ, _-_}
+use lib.ListN.{length, replicate}
+use Rattle.trace.specs.Answer as records
+use Rattle.trace.specs.Whole.{Bytes, Words, readTrace, writeTrace}
+use Rattle.trace.proofs.Traces as traces
+use Rattle.trace.proofs.read_at.Statement as read-at
+use Rattle.trace.proofs.read_at.Met as read-at-met
+use Rattle.trace.proofs.read_trace.Statement as read-trace
+use Rattle.trace.proofs.read_trace.Met as read-trace-met
+use Rattle.trace.proofs.write_trace.Statement as write-trace
+use Rattle.trace.proofs.write_trace.Met as write-trace-met
+use Rattle.meaning.specs.Answers.{value, refused, letterOf}
+use Rattle.meaning.specs.Names.{Program}
+use Rattle.meaning.specs.Opening.{Opened, asOpened, openText}
+use Rattle.meaning.specs.Acceptance.{Written, Acceptable, TurnedAway}
+use Rattle.meaning.specs.Table.{laidAll}
+use Rattle.meaning.specs.Numbered.{numberedFrom}
+use Rattle.meaning.specs.Calls.{Reply, AllRightly}
+use Rattle.meaning.specs.Sheet.{sheet}
+use Rattle.meaning.proofs.Exactly as exactly
+use Rattle.meaning.proofs.Rows.{rows-no-more}
+use Rattle.meaning.proofs.Calls.{replies-rightly}
+use Rattle.rules.specs.Laying.{rowWord, codeOf}
+use Rattle.rules.specs.Watches.{watchOf}
+use Rattle.rules.proofs.open.Statement as open-text
+use Rattle.rules.proofs.open.Met as open-text-met
+use Rattle.monitor.specs.Calls.{repliesOf}
+use Rattle.monitor.proofs.Program as program
+use Rattle.monitor.proofs.Calls.{calls-answered}
+use Rattle.monitor.proofs.tick.Statement as tick
+use Rattle.monitor.proofs.tick.Met as tick-met
+use Rattle.sheet.specs.Pieces.{joined, printedInPieces}
+use Rattle.sheet.proofs.Pieces as pieces
+use Rattle.sheet.proofs.begin.Statement as begin
+use Rattle.sheet.proofs.begin.Met as begin-met
+use Rattle.sheet.proofs.run.Statement as run
+use Rattle.sheet.proofs.run.Met as run-met
+use Rattle.sheet.proofs.finish.Statement as finish
+use Rattle.sheet.proofs.finish.Met as finish-met
+use Rattle.sheet.proofs.linewatch_sheet.Statement as linewatch-sheet
+use Rattle.sheet.proofs.linewatch_sheet.Met as linewatch-sheet-met
+use Rattle.sheet.proofs.linewatch_write_record.Statement as write-record
+use Rattle.sheet.proofs.linewatch_write_record.Met as write-record-met
+
+-- ---- Demand 1: each entry point takes every text, record and word, always ends, and leaves the lent ranges and the watch as its contract says
+
+-- A `statement` is made by the prover from a function's contract (`ensures` in src/): for every input the function ends, does nothing undefined, and what it answers
+-- and leaves is as the contract says. None of these has a `requires`.
+
+pub open-entry : {M : Type 1} → open-text.statement M
+open-entry = open-text-met.met
+
+pub tick-entry : {M : Type 1} → tick.statement M
+tick-entry = tick-met.met
+
+-- for C: the printed sheet, and the record of a word
+pub sheet-entry : {M : Type 1} → linewatch-sheet.statement M
+sheet-entry = linewatch-sheet-met.met
+
+pub write-record-entry : {M : Type 1} → write-record.statement M
+write-record-entry = write-record-met.met
+
+-- the printed sheet in pieces
+pub begin-entry : {M : Type 1} → begin.statement M
+begin-entry = begin-met.met
+
+pub run-entry : {M : Type 1} → run.statement M
+run-entry = run-met.met
+
+pub finish-entry : {M : Type 1} → finish.statement M
+finish-entry = finish-met.met
+
+-- wire records: the reader by itself, and whole traces
+pub read-at-entry : {M : Type 1} → read-at.statement M
+read-at-entry = read-at-met.met
+
+pub read-trace-entry : {M : Type 1} → read-trace.statement M
+read-trace-entry = read-trace-met.met
+
+pub write-trace-entry : {M : Type 1} → write-trace.statement M
+write-trace-entry = write-trace-met.met
+
+-- ---- Demand 2: which texts are accepted; the table; wire records
+
+-- A text is accepted exactly if it is acceptable as some program: short, that program by the grammar, with few letters and no letter at fault. The answer is the program opened.
+pub accepted-exactly : (text : List ℕ) (o : Opened) → openText text ≡ value o ↔ ((p : Program) × Acceptable text p × (asOpened p ≡ o))
+accepted-exactly = exactly.accepted-exactly
+
+-- It is refused with monitor i and a letter exactly if it is a program by the grammar, and its first fault by 8 to 12 is that one.
+pub turned-away-exactly : (text : List ℕ) (number i letter : ℕ)
+    → openText text ≡ refused number (letterOf i letter) ↔ ((p : Program) × Written text p × TurnedAway p number i letter)
+turned-away-exactly = exactly.turned-away-exactly
+
+-- The table of an accepted text's watch: the words of its rows, one for each letter and each operator, and zeros behind them.
+pub table-exactly : (text : List ℕ) (o : Opened) → openText text ≡ value o
+    → (watchOf (value o) .table ≡ map (λ x. rowWord (codeOf 0 x)) (laidAll 0 (numberedFrom 0 (o .monitors))) ++ replicate (1024 - o .rowCount) 0)
+    × (length (laidAll 0 (numberedFrom 0 (o .monitors))) ≡ o .rowCount)
+table-exactly text o e =
+    let c = program.text-counted text o e in
+    (program.table-right o c, rows-no-more 0 (numberedFrom 0 (o .monitors)) ∙ program.program-rows o c)
+
+-- Wire records: a list of words comes back the same, and no two traces that are accepted read alike.
+pub there-and-back : (ws : List ℕ) → Words ws → readTrace (writeTrace ws) ≡ records.value ws
+there-and-back = traces.read-write
+
+pub no-two-alike : (s t ws : List ℕ) → Bytes s → Bytes t → readTrace s ≡ records.value ws → readTrace t ≡ records.value ws → s ≡ t
+no-two-alike = traces.read-unique
+
+-- ---- Demand 3: every list of calls, and the printed sheet
+
+-- For every accepted text and every list of calls from its opening on, each reply is the right one for its call and those before it.
+pub calls-rightly : (text : List ℕ) (o : Opened) → openText text ≡ value o
+    → (ws : List ℕ) → AllRightly (o .monitors) (o .initial) (o .wires) ws (repliesOf (watchOf (value o)) ws)
+calls-rightly text o e ws =
+    subst (AllRightly (o .monitors) (o .initial) (o .wires) ws) (sym (calls-answered text o e ws)) (replies-rightly (o .monitors) (o .initial) (o .wires) ws)
+
+-- However a trace is cut into pieces, `begin`, a `run` over each piece and `finish` print the sheet. (In one go: `sheet-entry` says it of `linewatch_sheet`.)
+pub sheet-in-pieces : (text : List ℕ) (cut : List (List ℕ)) → printedInPieces text cut ≡ sheet text (joined cut)
+sheet-in-pieces = pieces.pieces-printed
