@@ -68,7 +68,7 @@ next-front p u y g h = go (split u)
         (omega (arith, ap (λ (t : Placed). t .after) e, ap length q, length-append v (b ∷ r)))
         ∙ sym f
 
-token-front : (x y : List ℕ) (at : ℕ) → at ≤ length x → goesOn (tokenAt (x ++ y) at .token) ≡ true → tokenAt (x ++ y) at .after ≤ length x
+pub token-front : (x y : List ℕ) (at : ℕ) → at ≤ length x → goesOn (tokenAt (x ++ y) at .token) ≡ true → tokenAt (x ++ y) at .after ≤ length x
     → tokenAt (x ++ y) at ≡ tokenAt x at
 token-front x y at h g l =
     let e = at-front x y at h in
@@ -87,7 +87,7 @@ ends-later s at n [] o e = absurd e
 ends-later s at n (t ∷ ts) o (inl e) = omega (arith, o .0, o .1, e .1)
 ends-later s at n (t ∷ ts) o (inr e) = omega (arith, o .0, o .1, ends-later s (t .after) n ts (o .4) e)
 
-goes-no-end : (k : Token) → goesOn k ≡ true → isEnd k ≡ false
+pub goes-no-end : (k : Token) → goesOn k ≡ true → isEnd k ≡ false
 goes-no-end (name s) g = refl
 goes-no-end (word w) g = refl
 goes-no-end (number n) g = refl

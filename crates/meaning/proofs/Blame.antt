@@ -7,18 +7,14 @@ use Prim.Native.Nat.{ℕ, _≤_}
 use lib.ListN.{length}
 use borrow.Author.Tests.{le-ltb}
 use Rattle.lexer.specs.Tokens.{Placed, tokens}
-use Rattle.meaning.specs.Expression.{Literal}
 use Rattle.meaning.specs.Answers.{refused, byte}
 use Rattle.refusals.specs.Numbers.{oversize}
 use Rattle.meaning.specs.Reading
-use Rattle.meaning.specs.Reading.{Context, Expect, statement, wireMore, Step, go, finished, fault, step, readOn, read}
+use Rattle.meaning.specs.Reading.{Expect, statement, Step, go, finished, fault, step, readOn, read}
 use Rattle.meaning.specs.Names.{Names, noNames}
+use Rattle.meaning.specs.Viable.{Pending, bare-wire, feedOn, feed}
 use Rattle.meaning.proofs.ListLaws.{clash}
 use Rattle.meaning.proofs.Outcomes.{Outcome, refusal, late, ended, goes, outcome}
-
--- the place of a wire's name that the next token may still blame
-pub data Pending : Expect → ℕ → Type 0 where
-  bare-wire : {c : Context} {ls : List Literal} {lo w v p : ℕ} → Pending (wireMore c ls lo w v p) p
 
 abbrev pub Blamed : Placed → Expect → Step → Type 0
 Blamed t x (go ns y) = Unit {0}
@@ -36,16 +32,6 @@ pub blamed : (ns : Names) (x : Expect) (t : Placed) → Blamed t x (step ns x t)
 blamed ns x t = blamed-in (outcome ns t x)
 
 -- ---- what stands behind the blamed token
-
-abbrev pub feedOn : Step → (Names → Expect → Step) → Step
-feedOn (go ns x) next = next ns x
-feedOn (finished p) next = finished p
-feedOn (fault number place) next = fault number place
-
--- what tokens lead to, one after the other, up to a refusal or the end
-unfoldable pub feed : Names → Expect → List Placed → Step
-feed ns x [] = go ns x
-feed ns x (t ∷ ts) = feedOn (step ns x t) (λ ms y. feed ms y ts)
 
 -- A text that is refused with the tokens so far keeps its refusal whatever tokens stand behind them.
 pub refusal-kept : (ts us : List Placed) (ns : Names) (x : Expect) (number place : ℕ) → feed ns x ts ≡ fault number place

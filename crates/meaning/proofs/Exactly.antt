@@ -335,3 +335,8 @@ module _ (text : List ℕ) where
           let a : n ≡ number = cc in
           let b : q ≡ byte place = cc in
           subst (λ (z : Place). read text ≡ refused number z) b (subst (λ (k : ℕ). read text ≡ refused k q) a r)
+
+-- An overlong text is refused as that, and at its first byte.
+pub overlong-refused : (text : List ℕ) → 16384 < length text → openText text ≡ refused overlong (byte 0)
+unfolding openText read
+overlong-refused text h = ap (λ (t : Bool). andOpen (cond t (refused overlong (byte 0)) (readOn noNames statement (tokens text)))) (lt-ltb 16384 (length text) h)

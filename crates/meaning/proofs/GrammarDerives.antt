@@ -25,7 +25,7 @@ use Rattle.meaning.proofs.GrammarReads.{Fits}
 -- ---- one level of parentheses
 
 -- The tokens ts are the next operand of the level l, which begins at `start`; its last sequence and the last term of that begin at `sequence` and `term`.
-record LevelAt (ns : Names) (n : ℕ) (l : Level) (ts : List Token) : Type 0 where
+pub record LevelAt (ns : Names) (n : ℕ) (l : Level) (ts : List Token) : Type 0 where
   start : List Token
   sequence : List Token
   term : List Token
@@ -118,7 +118,7 @@ module _ (T : List Token) where
   WriteAt ns o ls ws ts = (w : Write) (us : List Token) → IsWrite ns ts us w → length ws < 2 → WritesAt ns o ls (ws ++ (w ∷ [])) us
 
   -- the tokens before ts are what makes reading expect x
-  abbrev Derived : Names → Expect → List Token → Type 0
+  abbrev pub Derived : Names → Expect → List Token → Type 0
   Derived ns statement ts = From ns ts
   Derived ns (sign k x) ts = (us : List Token) → ts ≡ token.sign k ∷ us → Derived ns x us
   Derived ns (nought x) ts = (us : List Token) → ts ≡ token.number 0 ∷ us → Derived ns x us
@@ -281,7 +281,7 @@ module _ (T : List Token) where
     word-derived token.define d = d
     word-derived token.monitor d = (us, d, λ s e vs z h. rw z (Grammar.one-monitor h))
 
-    next-derived : {place : ℕ} {u : Token} {x y : Expect} {ms : Names} → Next ns place u x ms y → Derived ns x (u ∷ us) → Derived ms y us
+    pub next-derived : {place : ℕ} {u : Token} {x y : Expect} {ms : Names} → Next ns place u x ms y → Derived ns x (u ∷ us) → Derived ms y us
     next-derived (by-sign n) d = sign-derived n d
     next-derived (by-number n) d = number-derived n d
     next-derived (by-name n) d = name-derived n d

@@ -29,7 +29,7 @@ ended-from (suc k) s at = on (goesOn (tokenAt s at .token)) refl (ended-from k s
     on true e h = ((λ z. let g : goesOn token.end ≡ true = rw z at e in clash (cc)), h)
     on false e h = ((λ z. refl), tt)
 
-ended : (text : List ℕ) → Ended (tokens text)
+pub ended : (text : List ℕ) → Ended (tokens text)
 unfolding tokensAt
 ended text = ended-from (suc (length text - 0)) text 0
 

@@ -29,6 +29,12 @@ pub mod Within
 pub mod GrammarReads
 pub mod GrammarDerives
 pub mod GrammarExact
+pub mod FreeName
+pub mod Sound
+pub mod Finish
+pub mod Spared
+pub mod Viable
+pub mod Completed
 pub mod Openings
 pub mod Examples
 pub mod Exactly

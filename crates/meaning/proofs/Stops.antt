@@ -18,7 +18,7 @@ Halts (go ns x) = ⊥
 Halts (finished p) = Unit {0}
 Halts (fault number place) = Unit {0}
 
-next-goes-on : {ns ms : Names} {place : ℕ} {u : Token} {x y : Expect} → Next ns place u x ms y → goesOn u ≡ true
+pub next-goes-on : {ns ms : Names} {place : ℕ} {u : Token} {x y : Expect} → Next ns place u x ms y → goesOn u ≡ true
 next-goes-on (by-sign n) = refl
 next-goes-on (by-number n) = refl
 next-goes-on (by-name n) = refl

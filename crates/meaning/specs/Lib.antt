@@ -5,6 +5,7 @@ pub mod Expression
 pub mod Names
 pub mod Grammar
 pub mod Reading
+pub mod Viable
 pub mod Shape
 pub mod Opening
 pub mod Acceptance

@@ -2,9 +2,11 @@
 -- each statement in words. Assumes nothing.
 use mathlib.Core.Path.{_≡_, _∙_, sym, subst}
 use mathlib.Core.Logic.{_↔_}
-use mathlib.Core.List.{List, _++_, map}
-use Prim.Native.Nat.{ℕ, _-_}
+use mathlib.Core.List.{List, [], _∷_, _++_, map}
+use Prim.Native.Nat.{ℕ, _-_, _<_, _≤_}
 use lib.ListN.{length, replicate}
+use Rattle.refusals.specs.Numbers.{overlong}
+use Rattle.lexer.specs.Tokens.{Placed}
 use Rattle.trace.specs.Answer as records
 use Rattle.trace.specs.Whole.{Bytes, Words, readTrace, writeTrace}
 use Rattle.trace.proofs.Traces as traces
@@ -14,17 +16,21 @@ use Rattle.trace.proofs.read_trace.Statement as read-trace
 use Rattle.trace.proofs.read_trace.Met as read-trace-met
 use Rattle.trace.proofs.write_trace.Statement as write-trace
 use Rattle.trace.proofs.write_trace.Met as write-trace-met
-use Rattle.meaning.specs.Answers.{value, refused, letterOf}
+use Rattle.meaning.specs.Answers.{value, refused, byte, letterOf}
 use Rattle.meaning.specs.Names.{Program}
+use Rattle.meaning.specs.Grammar.{plainTokens}
 use Rattle.meaning.specs.Opening.{Opened, asOpened, openText}
+use Rattle.meaning.specs.Viable.{Viable, Ample, Refusal}
 use Rattle.meaning.specs.Acceptance.{Written, Acceptable, TurnedAway}
 use Rattle.meaning.specs.Table.{laidAll}
 use Rattle.meaning.specs.Numbered.{numberedFrom}
-use Rattle.meaning.specs.Calls.{Reply, AllRightly}
+use Rattle.meaning.specs.Calls.{Reply, opening, AllRightly}
+use Rattle.meaning.specs.Fit.{start}
 use Rattle.meaning.specs.Sheet.{sheet}
 use Rattle.meaning.proofs.Exactly as exactly
+use Rattle.meaning.proofs.Viable as viable
 use Rattle.meaning.proofs.Rows.{rows-no-more}
-use Rattle.meaning.proofs.Calls.{replies-rightly}
+use Rattle.meaning.proofs.Calls.{length-replies, replies-rightly}
 use Rattle.rules.specs.Laying.{rowWord, codeOf}
 use Rattle.rules.specs.Watches.{watchOf}
 use Rattle.rules.proofs.open.Statement as open-text
@@ -91,6 +97,22 @@ write-trace-entry = write-trace-met.met
 pub accepted-exactly : (text : List ℕ) (o : Opened) → openText text ≡ value o ↔ ((p : Program) × Acceptable text p × (asOpened p ≡ o))
 accepted-exactly = exactly.accepted-exactly
 
+-- A text with too many bytes is refused as that. Any other is refused at a byte exactly if one of its tokens is at fault: nothing that follows it makes a text of the
+-- grammar, and something that follows the tokens before it does, unless names or limits stand in the way (`Spare` says when they do not).
+pub overlong-refused : (text : List ℕ) → 16384 < length text → openText text ≡ refused overlong (byte 0)
+overlong-refused = exactly.overlong-refused
+
+pub refused-exactly : (text : List ℕ) (number place : ℕ) → length text ≤ 16384 → openText text ≡ refused number (byte place) ↔ Refusal text number place
+refused-exactly text number place short =
+    let (a, b) = exactly.at-byte-exactly text number place in
+    let (c, d) = viable.refused-exactly text number place short in
+    (λ e. c (a e), λ r. b (d r))
+
+-- Where an input, a store and a production are declared and there is room for more, every list of tokens before the one refused could be followed to a text.
+pub first-unviable : {text : List ℕ} {number place : ℕ} (r : Refusal text number place) → Ample (r .names) (r .expects)
+    → ((ps us : List Placed) → r .before ≡ ps ++ us → Viable (plainTokens ps)) × (Viable (plainTokens (r .before ++ (r .at ∷ []))) → ⊥)
+first-unviable = viable.first-unviable
+
 -- It is refused with monitor i and a letter exactly if it is a program by the grammar, and its first fault by 8 to 12 is that one.
 pub turned-away-exactly : (text : List ℕ) (number i letter : ℕ)
     → openText text ≡ refused number (letterOf i letter) ↔ ((p : Program) × Written text p × TurnedAway p number i letter)
@@ -113,11 +135,14 @@ no-two-alike = traces.read-unique
 
 -- ---- Demand 3: every list of calls, and the printed sheet
 
--- For every accepted text and every list of calls from its opening on, each reply is the right one for its call and those before it.
-pub calls-rightly : (text : List ℕ) (o : Opened) → openText text ≡ value o
-    → (ws : List ℕ) → AllRightly (o .monitors) (o .initial) (o .wires) ws (repliesOf (watchOf (value o)) ws)
+-- For every accepted text and every list of calls from its opening on, there is a reply to each call, and it is the right one for that call and those before it.
+pub calls-rightly : (text : List ℕ) (o : Opened) → openText text ≡ value o → (ws : List ℕ)
+    → (length (repliesOf (watchOf (value o)) ws) ≡ length ws) × AllRightly (o .monitors) (o .initial) (o .wires) ws (repliesOf (watchOf (value o)) ws)
 calls-rightly text o e ws =
-    subst (AllRightly (o .monitors) (o .initial) (o .wires) ws) (sym (calls-answered text o e ws)) (replies-rightly (o .monitors) (o .initial) (o .wires) ws)
+    subst (λ (rs : List Reply). (length rs ≡ length ws) × AllRightly (o .monitors) (o .initial) (o .wires) ws rs) (sym (calls-answered text o e ws)) (
+      length-replies (o .monitors) (o .initial) (o .wires) (opening (start (o .initial))) ws,
+      replies-rightly (o .monitors) (o .initial) (o .wires) ws,
+    )
 
 -- However a trace is cut into pieces, `begin`, a `run` over each piece and `finish` print the sheet. (In one go: `sheet-entry` says it of `linewatch_sheet`.)
 pub sheet-in-pieces : (text : List ℕ) (cut : List (List ℕ)) → printedInPieces text cut ≡ sheet text (joined cut)

@@ -1,19 +1,18 @@
 -- Reading one record, in the steps that the code takes. Assumes nothing.
 use mathlib.Core.Path.{_≡_, refl}
-use mathlib.Core.Bool.{Bool, true, false}
+use mathlib.Core.Bool.{false}
 use mathlib.Core.List.{List, [], _∷_}
 use Prim.Native.Nat.{ℕ, _+_, _-_, _<_, _≤_}
 use native.Mathlib.Nat.{suc-ne-zero}
 use lib.Dec.{ltb}
 use lib.ListN.{length, getD, take, drop}
 use borrow.Author.Tests.{lt-ltb, le-ltb}
-use Rattle.refusals.specs.Numbers.{torn, idleByte}
+use Rattle.refusals.specs.Numbers.{torn}
 use Rattle.trace.specs.Answer.{Answer, value, refused}
 use Rattle.trace.specs.Record.{Item, word, end, count, merged, idle, judged, readRecord}
 use Rattle.trace.specs.Whole.{placed, readAt}
-use Rattle.trace.specs.Shown.{shownRead, mergedOf}
+use Rattle.trace.specs.Shown.{shownRead, shownMerged}
 use Rattle.trace.specs.declared.record.Merged.{Merged}
-use Rattle.trace.specs.declared.record.Merged.the-variants.{Word, Idle}
 use Rattle.trace.specs.declared.Read.{Read}
 use Rattle.trace.proofs.Lists.{part-rest}
 
@@ -35,15 +34,6 @@ unfolding readRecord judge
 read-some [] before n = absurd (n refl)
 read-some (m ∷ g) before n = rw (part-rest 1 (m ∷ g))
 
--- what a merge says of a record that is n bytes long
-abbrev pub itemOf : Merged → ℕ → Answer Item
-itemOf (Word w) n = value (word w n)
-itemOf Idle n = refused idleByte 0
-
-judged-merged : (t : Bool) (w n : ℕ) → itemOf (mergedOf t w) n ≡ judged false t (word w n)
-judged-merged true w n = refl
-judged-merged false w n = refl
-
 module _ (l : List ℕ) (before n : ℕ) (some : length l ≡ 0 → ⊥) (follow : n ≡ count 8 (getD l 0 0)) where
   pub read-torn : length (behind l) < n → refused torn 0 ≡ readRecord l before
   unfolding judge
@@ -51,11 +41,10 @@ module _ (l : List ℕ) (before n : ℕ) (some : length l ≡ 0 → ⊥) (follow
 
   -- `r` is what the merge answered, `s` the variant that it was found to be
   pub read-merged : (r s : Merged) → n ≤ length (behind l)
-      → r ≡ mergedOf (idle 8 before (getD l 0 0) (behind l)) (merged before (getD l 0 0) (behind l)) → r ≡ s → itemOf s (1 + n) ≡ readRecord l before
+      → ((m : ℕ) → shownMerged r m ≡ judged false (idle 8 before (getD l 0 0) (behind l)) (word (merged before (getD l 0 0) (behind l)) m)) → r ≡ s
+      → shownMerged s (1 + n) ≡ readRecord l before
   unfolding judge
-  read-merged r s h e f =
-      rw (read-some l before some, ← follow, le-ltb _ _ h, ← f, e)
-      (judged-merged (idle 8 before (getD l 0 0) (behind l)) (merged before (getD l 0 0) (behind l)) (1 + n))
+  read-merged r s h e f = rw (read-some l before some, ← follow, le-ltb _ _ h, ← f) (e (1 + n))
 
 -- at a position of a trace
 module _ (trace : List ℕ) (at before : ℕ) where

@@ -1,5 +1,4 @@
 -- What each answer of the code says in 01's terms: its value, or its number and place. Assumes nothing.
-use mathlib.Core.Bool.{Bool, true, false}
 use Prim.Native.Nat.{ℕ}
 use Rattle.refusals.specs.Numbers.{torn, idleByte, shortBin}
 use Rattle.trace.specs.Answer.{Answer, value, refused}
@@ -29,7 +28,7 @@ shownTrace (traceRead.Torn at) = refused torn at
 shownTrace (traceRead.Idle at) = refused idleByte at
 shownTrace traceRead.Short = refused shortBin 0
 
--- inside the reader: whether a byte is idle, else the word
-abbrev pub mergedOf : Bool → ℕ → Merged
-mergedOf true w = merged.Idle
-mergedOf false w = merged.Word w
+-- inside the reader, of a record of n bytes
+abbrev pub shownMerged : Merged → (n : ℕ) → Answer Item
+shownMerged (merged.Word w) n = value (word w n)
+shownMerged merged.Idle n = refused idleByte 0

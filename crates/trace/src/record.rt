@@ -4,11 +4,12 @@ use super::Read;
 use super::Written;
 ghost use mathlib.Core.Path.{_≡_};
 ghost use mathlib.Core.List.{_++_};
-ghost use Prim.Native.Nat.{_+_, _*_, _%_, _^_, _≤_, _<_};
+ghost use mathlib.Core.Bool.{false};
+ghost use Prim.Native.Nat.{ℕ, _+_, _*_, _%_, _^_, _≤_, _<_};
 ghost use lib.ListN.{length, drop};
-ghost use Rattle.trace.specs.Record.{bit, byte, count, changes, recordOf, written, readRecord, idle, merged};
+ghost use Rattle.trace.specs.Record.{bit, byte, count, changes, recordOf, written, word, readRecord, idle, merged, judged};
 ghost use Rattle.trace.specs.Whole.{readAt, lend};
-ghost use Rattle.trace.specs.Shown.{shownRead, shownWritten, mergedOf};
+ghost use Rattle.trace.specs.Shown.{shownRead, shownWritten, shownMerged};
 
 // Bit i of a map.
 fn bit(i: usize, map: u8) -> u8
@@ -49,7 +50,7 @@ enum Merged {
 
 fn merge(given: &[u8], before: u64, map: u8) -> Merged
     requires { ⌜ count 8 map ≤ length (now given) ⌝ }
-    ensures { λ r. ⌜ r ≡ mergedOf (idle 8 before map (now (given .entry))) (merged before map (now (given .entry))) ⌝ }
+    ensures { λ r. ⌜ ((n : ℕ) → shownMerged r n ≡ judged false (idle 8 before map (now (given .entry))) (word (merged before map (now (given .entry))) n)) ⌝ }
 {
     let mut word: u64 = 0;
     let mut at: usize = 0;

@@ -33,7 +33,7 @@ add-at c = omega (arith, shared-slice-read-new c)
 returns : tie.Need-returns Inv-loop μ-loop
 returns c =
     let l = c .before .before .before .before .before .before .loop in
-    rw (merging-idle _ _ _ _ _ _ (l .inv) (omega arith) (sym (c .before .before .before .bit .ensures) ∙ c .before .before .if1 .taken)
+    λ n. rw (merging-idle _ _ _ _ _ _ (l .inv) (omega arith) (sym (c .before .before .before .bit .ensures) ∙ c .before .before .if1 .taken)
     (c .if2 .taken ∙ c .before .before .before .before .byte .ensures))
 
 at-place-requires : tie.Need-at-place-requires Inv-loop μ-loop
@@ -67,7 +67,7 @@ loop-again c = joined c
 returns-2 : tie.Need-returns-2 Inv-loop μ-loop
 returns-2 c =
     let d = merging-done _ _ _ _ _ _ (c .before .loop .inv) (omega arith) in
-    rw (d .0, d .1)
+    λ n. rw (d .0, d .1)
 
 pub merge-spec : {M : Type 1} → statement M
 merge-spec =

@@ -1,0 +1,164 @@
+-- What names and limits are needed for: where a token leads from x to y, and they are not in the way of y, they are not in the way of x (specs/Viable). So they are in no way
+-- of what becomes a text. And where there is enough of all they are in no way of anything. Assumes nothing.
+use mathlib.Core.Path.{_≡_, subst}
+use mathlib.Core.Bool.{Bool}
+use mathlib.Core.List.{List, [], _∷_}
+use mathlib.Core.Logic.{_⊎_, inl, inr}
+use Prim.Native.Nat.{ℕ, _<_}
+use native.Mathlib.Omega.{arith}
+use lib.ListN.{length}
+use Rattle.lexer.specs.Tokens as token
+use Rattle.lexer.specs.Tokens.{Token, Placed}
+use Rattle.meaning.specs.Expression.{Literal, Write, Exp}
+use Rattle.meaning.specs.Answers.{value}
+use Rattle.meaning.specs.Reading.{Open, Context, inDefine, inLetter, Expect, statement, sign, nought, closing, inputName, inputMore, inputHigh, storeName, storeMore, storeHigh, storeFirst, defineName, operand, literal, negated, wireMore, bitIndex, wireEquals, storeEquals, literalMore, writeStore, writeValue, writeMore, operandMore, monitorName, monitorMore, textEnd, Step, andThen, readOn, behindWord}
+use Rattle.meaning.specs.Names.{aProduction, Names, Declaration, newInput, newStore, newDefine, newProduction, declare, Program}
+use Rattle.meaning.specs.Grammar.{plainTokens}
+use Rattle.meaning.specs.Viable
+use Rattle.meaning.specs.Viable.{Spelled, AllSpelled, HasLiteral, Ends, EndsIn, Spare, MonitorNext, Ample}
+use Rattle.meaning.proofs.ListLaws.{clash}
+use Rattle.meaning.proofs.Outcomes.{LiteralNext, more-literals, first-literal, BehindLiterals, literals, one-wire, BehindOperand, operands, letters, WriteNext, first-write, more-writes, BySign, expected, closed, narrow-input, wide-input, narrow-store, wide-store, opened, negation, index, compared, joined, defined, writing, written, starred, piped, followed, or-else, level-closed, produced, more-monitors, all-monitors, ByNumber, zero-read, input-width, store-width, first-value, bit-index, wire-value, store-value, number-written, ByName, new-input, new-store, new-define, new-production, of-wire, of-store, of-define, of-production, of-negated, equal-store, store-written, wire-written, monitored, Next, by-sign, by-number, by-name, by-word, Outcome, refusal, late, ended, goes, outcome}
+use Rattle.meaning.proofs.Sound.{meaningOf, one-more, stood, NoProduction, Sound, ExpectSound, next-sound}
+
+module _ (ns : Names) where
+  -- before a declaration that is no production's
+  ends-before : (d : Declaration) → NoProduction d → Ends 0 (declare d ns) → Ends 1 ns
+  ends-before d g (inr h) = inr (omega (arith, one-more ns d))
+  ends-before d g (inl (s, e, h)) = inl (s, e, by d g (stood ns d s (aProduction e) h))
+    where
+      by : {A B : Type 0} (d : Declaration) → NoProduction d → (A × (meaningOf ns d ≡ aProduction e)) ⊎ B → B
+      by (newInput r w) g (inl (i, k)) = clash (cc)
+      by (newStore r w v) g (inl (i, k)) = clash (cc)
+      by (newDefine r ls) g (inl (i, k)) = clash (cc)
+      by (newProduction r x) g (inl (i, k)) = absurd g
+      by d g (inr a) = a
+
+  literal-spare : {x : Expect} {c : Context} {ls : List Literal} → LiteralNext x c ls → HasLiteral ns c ls → EndsIn ns c → Spare ns x
+  literal-spare more-literals l h = (l, h)
+  literal-spare first-literal l h = inl l
+
+  literals-spare : {x : Expect} {c : Context} {ls : List Literal} → BehindLiterals x c ls → EndsIn ns c → Spare ns x
+  literals-spare literals h = h
+  literals-spare (one-wire e) h = h
+
+  operand-spare : {x : Expect} {o : Open} {e : Exp} {b : Bool} → BehindOperand x o e b → Spare ns x
+  operand-spare operands = tt
+  operand-spare (letters n) = literals-spare n tt
+
+  sign-spare : {k : ℕ} {x y : Expect} {ms : Names} → BySign ns k x ms y → ExpectSound ns x → Spare ms y → Spare ns x
+  sign-spare expected g h = h
+  sign-spare (closed {d}) (f, g) h = ends-before d g h
+  sign-spare (narrow-input {s}) g h = ends-before (newInput s 1) tt h
+  sign-spare wide-input g h = h
+  sign-spare narrow-store g h = h
+  sign-spare wide-store g h = h
+  sign-spare (opened few) g h = h
+  sign-spare (negation n) g (i, h) = literal-spare n (inl i) h
+  sign-spare index g h = h
+  sign-spare (compared e) g h = h
+  sign-spare (joined n) g (l, h) = literals-spare n h
+  sign-spare (defined {s} {ls} n) g h = literals-spare n (ends-before (newDefine s ls) tt h)
+  sign-spare (writing n) g h = literals-spare n tt
+  sign-spare written g h = tt
+  sign-spare (starred n e) g h = operand-spare n
+  sign-spare (piped n e) g h = operand-spare n
+  sign-spare (followed n) g h = operand-spare n
+  sign-spare (or-else n) g h = operand-spare n
+  sign-spare (level-closed n e) g h = operand-spare n
+  sign-spare (produced n e) g h = operand-spare n
+  sign-spare more-monitors g h = tt
+  sign-spare all-monitors g h = tt
+
+  number-spare : {n : ℕ} {x y : Expect} → ByNumber ns n x y → Spare ns y → Spare ns x
+  number-spare zero-read h = h
+  number-spare (input-width k l) h = h
+  number-spare (store-width k) h = h
+  number-spare (first-value k) h = h
+  number-spare (bit-index k) h = h
+  number-spare (wire-value k) h = h
+  number-spare (store-value k) h = h
+  number-spare (number-written k) h = tt
+
+  name-spare : {place : ℕ} (s : List ℕ) {x y : Expect} → ByName ns place s x y → Spare ns y → Spare ns x
+  name-spare s (new-input (e, k) w) h = (omega arith, w, h)
+  name-spare s (new-store (e, k) w) h = (omega arith, w, h)
+  name-spare s (new-define (e, k)) (l, h) = (omega arith, l, h)
+  name-spare s (new-production (e, k)) h = inr (omega arith)
+  name-spare s (of-wire {lo} {w} n e) h = literal-spare n (inl (s, lo, w, e)) h
+  name-spare s (of-store {n = i} {w} n e k) h = literal-spare n (inr (inl ((s, i, w, e), k))) h
+  name-spare s (of-define {ds} n e k) h = literal-spare n (inr (inr (s, ds, e, k))) h
+  name-spare s (of-production {e} k) h = inr (s, e, k)
+  name-spare s (of-negated {lo} {w} e) h = ((s, lo, w, e), h)
+  name-spare s (equal-store e k) h = h
+  name-spare s (store-written {n = i} {w} n e k) h = write-spare n
+    where
+      write-spare : {x : Expect} {o : Open} {ls : List Literal} {ws : List Write} → WriteNext x o ls ws → Spare ns x
+      write-spare first-write = (s, i, w, e)
+      write-spare more-writes = tt
+  name-spare s (wire-written e k) h = tt
+  name-spare s (monitored {e} k few) h = ((s, e, k), few)
+
+  word-spare : (w : token.Word) → Spare ns (behindWord w) → Ends 0 ns
+  word-spare token.input (r, w, h) = inr r
+  word-spare token.internal (r, w, h) = inr r
+  word-spare token.define (r, l, h) = inr r
+  word-spare token.monitor (p, few) = inl p
+
+next-spare : {ns ms : Names} {place : ℕ} {u : Token} {x y : Expect} → Next ns place u x ms y → ExpectSound ns x → Spare ms y → Spare ns x
+next-spare (by-sign n) g h = sign-spare _ n g h
+next-spare (by-number n) g h = number-spare _ n h
+next-spare (by-name {s} n) g h = name-spare _ s n h
+next-spare (by-word {w}) g h = word-spare _ w h
+
+-- Names and limits are not in the way where what follows is read to the end.
+pub read-spare : (ts : List Placed) (ns : Names) (x : Expect) (p : Program) → AllSpelled (plainTokens ts) → Sound ns x → readOn ns x ts ≡ value p → Spare ns x
+unfolding readOn
+read-spare [] ns x p t g e = clash (cc)
+read-spare (q ∷ ts) ns x p (t, l) g e = by (outcome ns q x) g (λ ms y k f. read-spare ts ms y p l k f) e
+  where
+    by : {x : Expect} {s : Step} → Outcome ns q x s → Sound ns x → ((ms : Names) (y : Expect) → Sound ms y → readOn ms y ts ≡ value p → Spare ms y)
+        → andThen s (λ ms y. readOn ms y ts) ≡ value p → Spare ns x
+    by refusal g f e = clash (cc)
+    by late g f e = clash (cc)
+    by (ended h) g f e = tt
+    by (goes {y} {ms} h n) g f e = next-spare n (g .1) (f ms y (next-sound n (subst Spelled h t) g) e)
+
+-- ---- enough of all
+
+module _ {ns : Names} where
+  in-context : {x : Expect} (c : Context) → Ample ns x → EndsIn ns c
+  in-context (inDefine s) a = inl (a .production)
+  in-context (inLetter o) a = tt
+
+  inner : {y : Expect} (x : Expect) → Ample ns y → ((ms : List Exp) → MonitorNext x ms → length ms < 32) → Ample ns x
+  inner x a f = record { input = a .input; store = a .store; production = a .production; room = a .room; wires = a .wires; stores = a .stores; monitors = f }
+
+  -- Where there is enough of all, names and limits are not in the way of anything that is expected.
+  pub ample : (x : Expect) → Ample ns x → Spare ns x
+  ample statement a = inl (a .production)
+  ample (sign k x) a = ample x (inner x a (λ ms m. a .monitors ms (Viable.behind-sign m)))
+  ample (nought x) a = ample x (inner x a (λ ms m. a .monitors ms (Viable.behind-nought m)))
+  ample (closing d) a = inl (a .production)
+  ample inputName a = (a .room, a .wires, inl (a .production))
+  ample (inputMore s) a = inl (a .production)
+  ample (inputHigh s) a = inl (a .production)
+  ample storeName a = (a .room, a .stores, inl (a .production))
+  ample (storeMore s) a = inl (a .production)
+  ample (storeHigh s) a = inl (a .production)
+  ample (storeFirst s w) a = inl (a .production)
+  ample defineName a = (a .room, inl (a .input), inl (a .production))
+  ample (operand o) a = inr (a .production)
+  ample (literal c ls) a = (inl (a .input), in-context c a)
+  ample (negated c ls) a = (a .input, in-context c a)
+  ample (wireMore c ls lo w v p) a = in-context c a
+  ample (bitIndex c ls lo w v) a = in-context c a
+  ample (wireEquals c ls lo w) a = in-context c a
+  ample (storeEquals c ls n w) a = in-context c a
+  ample (literalMore c ls) a = in-context c a
+  ample (writeStore o ls ws) a = a .store
+  ample (writeValue o ls ws n w) a = tt
+  ample (writeMore o ls ws) a = tt
+  ample (operandMore o e b) a = tt
+  ample (monitorName ms) a = (a .production, a .monitors ms Viable.at-name)
+  ample (monitorMore ms) a = tt
+  ample (textEnd ms) a = tt
