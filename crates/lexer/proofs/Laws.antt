@@ -6,7 +6,7 @@
 -- spaced: between the tokens, before the first and before the end, there is only white space.
 pub use Rattle.lexer.proofs.Order.{tokens-step, InOrder, in-order, Spaced, spaced}
 -- token-longest: a token is spelled by its bytes, and no more bytes from its place on spell a token.
--- knot-why: what is refused has 01's number 2, for one of 01's reasons.
+-- knot-why: what is refused has the number 2, for one of the reasons of T7.
 -- end-place: the end's place is the text's length.
 pub use Rattle.lexer.proofs.Longest.{Spells, Longest, token-longest, Why, knot-why, end-place}
 -- tokens-parted: with white space between x and y, the tokens are those of x and then those of y, moved.

@@ -1,5 +1,5 @@
 -- A token is the longest that can be taken at its place: it is what its bytes spell, and no more bytes from its place on spell a token.
--- Where nothing is taken, it is for one of 01's reasons.
+-- Where nothing is taken, it is for one of the reasons of T7.
 -- Assumes nothing.
 use mathlib.Core.Path.{_≡_, refl, sym, _∙_, ap, subst}
 use mathlib.Core.Bool.{Bool, true, false, not, _||_, false≢true, true≢false}
@@ -29,7 +29,7 @@ abbrev pub starts : (ℕ → Bool) → List ℕ → Bool
 starts p [] = false
 starts p (b ∷ s) = p b
 
--- the whole of x is one token: 01's first paragraph, read the other way round
+-- the whole of x is one token: T3 to T6, read the other way round
 unfoldable pub Spells : List ℕ → Token → Type 0
 Spells x (name y) =
     (x ≡ y) × (starts isLetter x ≡ true) × (all isNameByte x ≡ true) × (length x ≤ 16) × (lookup x words ≡ none)
@@ -185,7 +185,7 @@ first-longest p (b ∷ u) t e g = view-longest p b u t (subst (First p b u) (sym
 pub token-longest : (s : List ℕ) (at : ℕ) → goesOn (tokenAt s at .token) ≡ true → Longest (drop (tokenAt s at .place) s) (tokenAt s at)
 token-longest s at g = first-longest (tokenAt s at .place) (drop (tokenAt s at .place) s) (tokenAt s at) (at-place s at) g
 
--- why a text r begins with a knot: 01, "no token here, or a name or number too long"
+-- why a text r begins with a knot: T7, no token begins there, or a name or number is too long
 pub data Why (r : List ℕ) : Type 0 where
   noToken : ((n : ℕ) (k : Token) → n ≤ length r → Spells (take n r) k → ⊥) → Why r
   longName : starts isLetter r ≡ true → 16 < length (run isNameByte r) → Why r
@@ -223,7 +223,7 @@ unfolding firstToken
 first-why p [] t e n f = absurd (true≢false (ap isEnd (sym (ap (λ (t : Placed). t .token) e) ∙ f)))
 first-why p (b ∷ u) t e n f = view-why p b u t (subst (First p b u) (sym e) (first p b u)) n f
 
--- KNOT. What is refused has 01's number 2, and is refused for one of 01's reasons.
+-- KNOT. What is refused has the number 2, and is refused for one of the reasons of T7.
 pub knot-why : (s : List ℕ) (at n : ℕ) → tokenAt s at .token ≡ refused n → (n ≡ 2) × Why (drop (tokenAt s at .place) s)
 knot-why s at n f = first-why (tokenAt s at .place) (drop (tokenAt s at .place) s) (tokenAt s at) (at-place s at) n f
 

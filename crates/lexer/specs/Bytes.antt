@@ -1,5 +1,5 @@
--- The bytes of a rule text and their classes, by 01's first paragraph of "The rule text".
--- A text is the list of its bytes, and a place counts bytes from 0.
+-- The bytes of a rule text and which kinds there are (docs/REFERENCE.md, T1 to T5).
+-- T1: "A rule text is a list of bytes of any value." A place counts bytes from 0.
 -- Assumes nothing.
 use Prim.Native.Nat.{ℕ}
 use Prim.Native.Char.{Char, code}
@@ -22,26 +22,28 @@ any p (b ∷ s) = p b || any p s
 abbrev pub range : Char → Char → ℕ → Bool
 range low high b = leb (code low) b && leb b (code high)
 
--- 01: "parted by spaces, tabs, line feeds and carriage returns"
+-- T2: "White space is byte 32 (space), 9 (tab), 10 (line feed) or 13 (carriage return), and no other byte."
 unfoldable pub isWhite : ℕ → Bool
 isWhite b = any (eqb b) (bytes " \t\n\r")
 
+-- T5: a digit
 unfoldable pub isDigit : ℕ → Bool
 isDigit b = range "0" "9" b
 
--- 01: "a-z, A-Z, 0-9 and _, not starting with a digit"
+-- T3: "One of the bytes a-z, A-Z and `_` begins a name"
 unfoldable pub isLetter : ℕ → Bool
 isLetter b = range "a" "z" b || range "A" "Z" b || eqb b (code "_")
 
+-- T3: "as long as bytes a-z, A-Z, 0-9 or `_` follow"
 abbrev pub isNameByte : ℕ → Bool
 isNameByte b = isLetter b || isDigit b
 
--- the longest beginning of a text whose bytes all pass the test
+-- the longest beginning of a text whose bytes all pass the test (T3 and T5: "goes on for as long as")
 unfoldable pub run : (ℕ → Bool) → List ℕ → List ℕ
 run p [] = []
 run p (b ∷ s) = elim (p b) [ true ↦ b ∷ run p s | false ↦ [] ]
 
--- the same bytes
+-- the same bytes (T3: "Capital and small letters are different.")
 unfoldable pub same : List ℕ → List ℕ → Bool
 same [] [] = true
 same [] (c ∷ t) = false

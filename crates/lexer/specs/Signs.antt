@@ -1,4 +1,5 @@
--- 01: "Signs: ..". A sign is known by its number in 01's order, from 0, which has a name here.
+-- The signs (docs/REFERENCE.md, T6: "There are eighteen"). A sign is known by its number in that order, from 0, which
+-- has a name here.
 -- Assumes nothing.
 use Prim.Native.Nat.{ℕ}
 use mathlib.Core.List.{List, [], _∷_}
@@ -58,6 +59,7 @@ rightArrow = 16
 abbrev pub leftArrow : ℕ
 leftArrow = 17
 
+-- T6: "`;` `,` `@` `*` `&` `!` `(` `)` `[` `]` `{` `}` `:` `=` `==` `||` `->` `<-`"
 abbrev pub signs : List (Entry ℕ)
 signs =
     (";" means semicolon)

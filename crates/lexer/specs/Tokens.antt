@@ -1,4 +1,4 @@
--- The tokens of a rule text, by 01's first paragraph of "The rule text": what stands at a place, and the list of all.
+-- The tokens of a rule text (docs/REFERENCE.md, T2 to T7 and T9 to T11): what stands at a place, and the list of all.
 -- Assumes nothing.
 use Prim.Native.Nat.{ℕ, zero, suc, _+_, _-_, _*_, _^_, min}
 use mathlib.Core.Bool.{Bool, true, false, cond}
@@ -10,14 +10,15 @@ use Rattle.refusals.specs.Numbers as refusal
 use Rattle.lexer.specs.Signs.{signs}
 use Rattle.lexer.specs.Bytes.{Entry, _means_, lookup, run, isWhite, isDigit, isLetter, isNameByte}
 
--- 01: "The reserved words are input, internal, define and monitor."
+-- T4: "A name that is spelled exactly `input`, `internal`, `define` or `monitor` is a reserved word"
 pub data Word : Type 0 where
   input internal define monitor : Word
 
+-- T4: their spellings
 abbrev pub words : List (Entry Word)
 words = ("input" means input) ∷ ("internal" means internal) ∷ ("define" means define) ∷ ("monitor" means monitor) ∷ []
 
--- What stands at a place: a token, the end of the text, or 01's number of a refusal.
+-- What stands at a place: a token, the end of the text, or a refusal's number (X1).
 pub data Token : Type 0 where
   name : List ℕ → Token
   word : Word → Token
@@ -26,7 +27,7 @@ pub data Token : Type 0 where
   end : Token
   refused : ℕ → Token
 
--- A token with the place of its first byte, and the place after its last.
+-- T10: "the token that begins there, its place, and the place behind its last byte"
 pub record Placed : Type 0 where
   pub token : Token
   pub place : ℕ
@@ -36,29 +37,30 @@ pub record Placed : Type 0 where
 abbrev pub taken : ℕ → Token → ℕ → Placed
 taken p t n = record { token = t; place = p; after = p + n }
 
--- what takes no byte: the place after it is its own
+-- T11: "The end and a knot take no byte: the place behind them is their own"
 abbrev pub untaken : ℕ → Token → Placed
 untaken p t = record { token = t; place = p; after = p }
 
--- 01's number 2, knot: "no token here, or a name or number too long". The place is that of its first byte.
+-- T7: "Knot, refusal 2, is what stands where no token begins, and instead of a name with more than 16 bytes or a number
+-- of 2^64 or more."
 abbrev pub knot : ℕ → Placed
 knot p = untaken p (refused refusal.knot)
 
--- a name, unless it is a reserved word
+-- T4: a name, unless it is a reserved word
 abbrev pub orName : List ℕ → Option Word → Token
 orName s (some w) = word w
 orName s none = name s
 
--- 01: "A name has 1 to 16 of .."
+-- T3: "It may have 16 bytes."
 unfoldable pub nameToken : ℕ → List ℕ → Placed
 nameToken p s = cond (leb (length s) 16) (taken p (orName s (lookup s words)) (length s)) (knot p)
 
--- the value of decimal digits that follow on the value v; 48 is the byte of 0
+-- T5: "read in decimal": the value of digits that follow on the value v; 48 is the byte of 0
 unfoldable pub valueFrom : ℕ → List ℕ → ℕ
 valueFrom v [] = v
 valueFrom v (b ∷ s) = valueFrom (v * 10 + (b - 48)) s
 
--- 01: "A number is decimal, below 2^64 (more is number 2), leading zeros allowed."
+-- T5: "its value must be below 2^64"
 unfoldable pub numberToken : ℕ → List ℕ → Placed
 numberToken p s = cond (ltb (valueFrom 0 s) (2 ^ 64)) (taken p (number (valueFrom 0 s)) (length s)) (knot p)
 
@@ -67,7 +69,8 @@ abbrev pub orSign : ℕ → List ℕ → Option ℕ → Placed → Placed
 orSign p s (some n) other = taken p (sign n) (length s)
 orSign p s none other = other
 
--- 01: "the longest is taken": a sign of two bytes, else of one, else a knot; no sign has more
+-- T6: "Two bytes that make a sign are taken together, even if the first of them is a sign too". Else a sign of one
+-- byte, else a knot (T7).
 unfoldable pub signToken : ℕ → List ℕ → Placed
 signToken p s =
     orSign p (take 2 s) (lookup (take 2 s) signs)
@@ -75,7 +78,8 @@ signToken p s =
     (knot p))
 
 -- what stands first in the text s, whose first byte is not white space and has the place p;
--- 01: "a name or a number takes every character it can"
+-- T9: "Behind the last token stands the end."; T5: "A digit begins a number", T3: "begins a name", else a sign or a
+-- knot
 unfoldable pub firstToken : ℕ → List ℕ → Placed
 firstToken p [] = untaken p end
 firstToken p (b ∷ s) =
@@ -83,15 +87,15 @@ firstToken p (b ∷ s) =
     (cond (isLetter b) (nameToken p (run isNameByte (b ∷ s)))
     (signToken p (b ∷ s)))
 
--- what stands first in the text s after white space, where s begins at the place p
+-- what stands first in the text s, which begins at the place p; T10: "It skips white space from the position on"
 unfoldable pub nextToken : ℕ → List ℕ → Placed
 nextToken p s = let n = length (run isWhite s) in firstToken (p + n) (drop n s)
 
--- The token at a position of a text. Past the end it is the end, whose place is the text's length.
+-- T10: "For a position beyond the text's length it answers with the end." T9: "Its place is the length of the text".
 unfoldable pub tokenAt : List ℕ → ℕ → Placed
 tokenAt s at = nextToken (min at (length s)) (drop at s)
 
--- nothing is read after the end or a refusal
+-- T11: nothing is read after the end or a knot
 abbrev pub goesOn : Token → Bool
 goesOn (name s) = true
 goesOn (word w) = true
@@ -107,10 +111,10 @@ tokensFrom (suc k) s at =
     let t = tokenAt s at in
     t ∷ elim (goesOn (t .token)) [ true ↦ tokensFrom k s (t .after) | false ↦ [] ]
 
--- The tokens from a position on, the last of which is the end or a refusal. A token takes a byte at least.
+-- The tokens from a position on, the last of which is the end or a knot. A token takes a byte at least.
 unfoldable pub tokensAt : List ℕ → ℕ → List Placed
 tokensAt s at = tokensFrom (suc (length s - at)) s at
 
--- The tokens of a text.
+-- T11: "the tokens of a text are listed up to its end or its first knot"
 abbrev pub tokens : List ℕ → List Placed
 tokens s = tokensAt s 0

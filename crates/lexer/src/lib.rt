@@ -1,4 +1,4 @@
-// The tokens of a rule text: 01, the first paragraph of "The rule text". `token_at` reads the token at a position of a text.
+// The tokens of a rule text (docs/REFERENCE.md, T). `token_at` reads the token at a position of a text.
 // What a token is stands in specs/Tokens.antt, and specs/Shown.antt says what the types here stand for in its terms.
 ghost use mathlib.Core.Path.{_≡_};
 ghost use Prim.Native.Nat.{ℕ, _+_, _<_, _≤_};
@@ -18,7 +18,7 @@ use classes::WHITE;
 use classes::class_of;
 use classes::class_table;
 
-// The signs, by their numbers in 01's order.
+// The signs, by their numbers in the order of T6.
 pub const SEMICOLON: u8 = 0;
 
 pub const COMMA: u8 = 1;
@@ -70,7 +70,7 @@ pub enum Kind {
     // One of the numbers above.
     Sign(u8),
     End,
-    // 01's knot: no token, or a name or number too long.
+    // T7: no token, or a name or number too long.
     Knot,
 }
 

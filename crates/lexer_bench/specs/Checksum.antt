@@ -1,4 +1,4 @@
--- One number made of all tokens of a text, for the benchmark to compare.
+-- One number made of all tokens of a text (docs/REFERENCE.md, T11), for the benchmark to compare.
 -- Assumes nothing.
 use mathlib.Core.List.{List, [], _∷_}
 use Prim.Native.Nat.{ℕ, _+_, _%_, _^_}

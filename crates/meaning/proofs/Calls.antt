@@ -1,4 +1,4 @@
--- Calls: each reply is 01's, no other list of replies is, and the machine of active positions gives the same.
+-- Calls: each reply is the right one (docs/REFERENCE.md, W3 to W6), no other list of replies is, and the machine of active positions gives the same.
 use mathlib.Core.List.{List, [], _∷_, _++_, append-nil, append-assoc}
 use mathlib.Core.Bool.{Bool, true, false, not, cond, _||_}
 use mathlib.Core.Path.{_≡_, refl, sym, ap, ap₂, _∙_, subst}
@@ -15,7 +15,7 @@ use Rattle.meaning.specs.Expression.{Exp}
 use Rattle.meaning.specs.ShapeTests.{AllRead}
 use Rattle.meaning.specs.Fit.{Verdict, ok as clean, bad as broken, History, start, onward, history, judged}
 use Rattle.meaning.specs.Positions.{opened, answer, moved, machineReplies}
-use Rattle.meaning.specs.Calls.{Reply, ok, bad, refused, replyOf, mostTicks, isFull, isStray, State, opening, reply, after, repliesFrom, replies, isOk, isBad, isRefused, judgedWords, Rightly, AllRightly}
+use Rattle.meaning.specs.Calls.{Reply, ok, bad, refused, replyOf, mostTicks, isFull, isStray, State, opening, reply, after, repliesFrom, stateFrom, replies, standing, isOk, isBad, isRefused, judgedWords, Rightly, AllRightly}
 use Rattle.meaning.proofs.ListLaws.{carry-append, clash}
 use Rattle.meaning.proofs.Watch.{AllAccepted, Tracks, opened-tracks, same-verdict, same-move}
 use Rattle.meaning.proofs.Accept.{accept-all}
@@ -193,7 +193,7 @@ module _ (ms : List Exp) (initial : List ℕ) (wires : ℕ) where
       t : State History
       t = after (onward ms) s v r
 
-  -- Every call is answered as 01 says.
+  -- Every call is answered as W3 to W6 say.
   pub replies-rightly : (ws : List ℕ) → AllRightly ms initial wires ws (replies ms initial wires ws)
   replies-rightly ws = rightly-from ws (opening (start initial)) [] []
       (record { stopped-is = refl; oks-is = refl; oks-most = omega arith; inner-is = λ t. refl; as-long = refl })
@@ -234,7 +234,7 @@ module _ (ms : List Exp) (initial : List ℕ) (wires : ℕ) where
   length-replies s [] = refl
   length-replies s (w ∷ ws) = ap suc (length-replies (after (onward ms) s w (reply (judged ms) wires s w)) ws)
 
-  -- "Text and calls alone fix every answer, first call to last."
+  -- W10: "Text and words alone fix all answers"
   pub replies-only : (ws : List ℕ) (rs : List Reply) → length rs ≡ length ws → AllRightly ms initial wires ws rs → rs ≡ replies ms initial wires ws
   replies-only ws rs p x =
       let q : length (replies ms initial wires ws) ≡ length ws = length-replies (opening (start initial)) ws in
@@ -244,41 +244,52 @@ module _ (ms : List Exp) (initial : List ℕ) (wires : ℕ) where
 
 -- ---- two that judge alike reply alike ----
 
+-- what is in them is alike, the same number of calls was ok, and one was bad in both or in neither
+abbrev pub Alike : {S R : Type 0} → (Like : S → R → Type 0) → State S → State R → Type 0
+Alike Like x y = Like (x .inner) (y .inner) × (x .oks ≡ y .oks) × (x .stopped ≡ y .stopped)
+
 module _ {S R : Type 0} (judge : S → ℕ → Verdict) (move : S → ℕ → S) (judge′ : R → ℕ → Verdict) (move′ : R → ℕ → R) (Like : S → R → Type 0)
     (alike : (s : S) (r : R) → Like s r → (w : ℕ) → judge s w ≡ judge′ r w)
     (onwards : (s : S) (r : R) → Like s r → (w : ℕ) → judge′ r w ≡ clean → Like (move s w) (move′ r w)) (wires : ℕ) where
-  pub same-replies : (ws : List ℕ) (s : S) (r : R) (n : ℕ) (b : Bool) → Like s r
-      → repliesFrom judge move wires (record { inner = s; oks = n; stopped = b }) ws ≡ repliesFrom judge′ move′ wires (record { inner = r; oks = n; stopped = b }) ws
-  unfolding repliesFrom reply
-  same-replies [] s r n b l = refl
-  same-replies (w ∷ ws) s r n b l =
-      ap (λ x. x ∷ repliesFrom judge move wires (after move here w x) ws) same ∙ ap (λ l. there ∷ l) (rest (same-replies ws) there refl)
-    where
-      here : State S
-      here = record { inner = s; oks = n; stopped = b }
+  module _ (x : State S) (y : State R) (a : Alike Like x y) (w : ℕ) where
+    same-reply : reply judge wires x w ≡ reply judge′ wires y w
+    unfolding reply
+    same-reply = rw (a .1, a .2, alike (x .inner) (y .inner) (a .0) w)
 
-      other : State R
-      other = record { inner = r; oks = n; stopped = b }
+    left-alike : (k : Reply) → reply judge′ wires y w ≡ k → Alike Like (after move x w k) (after move′ y w k)
+    unfolding reply
+    left-alike ok p =
+        (onwards (x .inner) (y .inner) (a .0) w (chosen-ok (y .stopped) (isFull (y .oks)) (isStray wires w) (judge′ (y .inner) w) p .2), ap suc (a .1), a .2)
+    left-alike (bad m) p = (a .0, a .1, refl)
+    left-alike (refused n q) p = a
 
-      there : Reply
-      there = reply judge′ wires other w
+  pub same-replies : (ws : List ℕ) (x : State S) (y : State R) → Alike Like x y → repliesFrom judge move wires x ws ≡ repliesFrom judge′ move′ wires y ws
+  unfolding repliesFrom
+  same-replies [] x y a = refl
+  same-replies (w ∷ ws) x y a =
+      ap (λ k. k ∷ repliesFrom judge move wires (after move x w k) ws) (same-reply x y a w)
+      ∙ ap (λ l. reply judge′ wires y w ∷ l) (same-replies ws _ _ (left-alike x y a w (reply judge′ wires y w) refl))
 
-      same : reply judge wires here w ≡ there
-      same = ap (λ v. chosen b (isFull n) (isStray wires w) (replyOf v)) (alike s r l w)
+  pub same-states : (ws : List ℕ) (x : State S) (y : State R) → Alike Like x y → Alike Like (stateFrom judge move wires x ws) (stateFrom judge′ move′ wires y ws)
+  unfolding stateFrom
+  same-states [] x y a = a
+  same-states (w ∷ ws) x y a =
+      subst (λ k. Alike Like (stateFrom judge move wires (after move x w k) ws) (stateFrom judge′ move′ wires (after move′ y w (reply judge′ wires y w)) ws))
+      (sym (same-reply x y a w)) (same-states ws _ _ (left-alike x y a w (reply judge′ wires y w) refl))
 
-      rest : ((s : S) (r : R) (n : ℕ) (b : Bool) → Like s r
-          → repliesFrom judge move wires (record { inner = s; oks = n; stopped = b }) ws ≡ repliesFrom judge′ move′ wires (record { inner = r; oks = n; stopped = b }) ws)
-          → (x : Reply) → there ≡ x → repliesFrom judge move wires (after move here w x) ws ≡ repliesFrom judge′ move′ wires (after move′ other w x) ws
-      rest ih ok p = ih (move s w) (move′ r w) (suc n) b (onwards s r l w (chosen-ok b (isFull n) (isStray wires w) (judge′ r w) p .2))
-      rest ih (bad m) p = ih s r n true l
-      rest ih (refused k q) p = ih s r n b l
+-- The machine over monitors that were not turned away replies to each list of calls as their meaning does, and stands then where that does.
+module _ (ms : List Exp) (read : AllRead ms) (initial : List ℕ) (wires : ℕ) (ws : List ℕ) where
+  accepted : AllAccepted ms
+  accepted = accept-all ms read
 
--- The machine over monitors that were not turned away replies to each list of calls as their meaning does.
-pub calls-right : (ms : List Exp) → AllRead ms → (initial : List ℕ) (wires : ℕ) (ws : List ℕ) → machineReplies ms initial wires ws ≡ replies ms initial wires ws
-calls-right ms read initial wires ws =
-    same-replies (answer ms) (moved ms) (judged ms) (onward ms) (λ v h. Tracks ms h v)
-    (λ v h t w. same-verdict ms accepted h v t w) (λ v h t w p. same-move ms accepted h v t w p) wires
-    ws (opened ms initial) (start initial) 0 false (opened-tracks ms initial)
-  where
-    accepted : AllAccepted ms
-    accepted = accept-all ms read
+  pub calls-right : machineReplies ms initial wires ws ≡ replies ms initial wires ws
+  calls-right =
+      same-replies (answer ms) (moved ms) (judged ms) (onward ms) (λ v h. Tracks ms h v)
+      (λ v h t w. same-verdict ms accepted h v t w) (λ v h t w p. same-move ms accepted h v t w p) wires
+      ws (opening (opened ms initial)) (opening (start initial)) (opened-tracks ms initial, refl, refl)
+
+  pub states-right : Alike (λ v h. Tracks ms h v) (stateFrom (answer ms) (moved ms) wires (opening (opened ms initial)) ws) (standing ms initial wires ws)
+  states-right =
+      same-states (answer ms) (moved ms) (judged ms) (onward ms) (λ v h. Tracks ms h v)
+      (λ v h t w. same-verdict ms accepted h v t w) (λ v h t w p. same-move ms accepted h v t w p) wires
+      ws (opening (opened ms initial)) (opening (start initial)) (opened-tracks ms initial, refl, refl)

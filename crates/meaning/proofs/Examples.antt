@@ -30,17 +30,17 @@ pub examples-hold : AllHold examples
 unfolding choose onName onNumber ifName ifNumber unless byKind known newName notHere atToken isWhite isDigit isLetter run same lookup nameToken valueFrom numberToken signToken firstToken nextToken tokenAt tokensFrom tokensAt letters size rows renumbered meets merge rounds runs writeMet onward verdict nullable first last follow threads agree together unsatisfiable parts nullables openEnds ambiguous shape meetsWires declare storeTests literalName behindOperand behindLiteral step readOn read asOpened tooLong misshapen openProgram openText countsOf reply digit number count picked recordOf differs changes written newByte merged idle readRecord writeAll writeTrace sheet tickLines cleanLine countsLine refusalLine line decimal digitsIn hexadecimal
 examples-hold = ((refl, (refl, (refl, (refl, (refl, (refl, (refl, (refl, (refl, (refl, (refl, (refl, (refl, (refl, (refl, (refl, tt)))))))))))))))))
 
--- the sample's trace is the one that 01 prints
+-- the sample's trace is the one that the customer's specification prints
 pub sample-trace : writeTrace (sample .words) ≡ 1 ∷ 1 ∷ 1 ∷ 0 ∷ 0 ∷ []
 unfolding digit number count picked recordOf differs changes written writeAll writeTrace
 sample-trace = refl
 
--- "the empty list of words fits each monitor"
+-- F14: "no words at all fit every monitor"
 pub empty-fits : (m : Exp) → fits m [] ≡ true
 unfolding runs rounds
 empty-fits m = refl
 
--- "its sheet ends `clean 0`"
+-- P7: its sheet ends with `clean 0`
 pub nothing-yet : (text : List ℕ) (o : Opened) → openText text ≡ value o → sheet text [] ≡ countsLine (counts o) ++ cleanLine 0
 unfolding sheet tickLines countsOf
 nothing-yet text o e = rw e

@@ -1,40 +1,79 @@
 -- What follows from the definitions. Openings has the headline: on every accepted text the machine of active positions replies as the meaning does.
+-- facts on lists that the others share: `each`, membership, tests
 pub mod ListLaws
+-- the runs on a tick and more are the runs on that tick alone, each followed by what follows its letters
 pub mod Step
+-- a part is left at once only where it is nullable
 pub mod Entering
+-- in a monitor that keeps 10, 11 and 12 all runs from one letter over one tick are equal
 pub mod OneWay
+-- over one tick the machine goes as the runs do, and over many; its positions are the letters of the last tick
 pub mod Active
+-- for a monitor that keeps the rules the machine goes on exactly where the ticks fit, and its positions are the letters met
 pub mod Monitor
+-- only which letters are active counts, not how often or in which order
 pub mod Sets
+-- word by word the machine's verdict is that of `Fit`, and its positions and store values are those of the history
 pub mod Watch
+-- literals agree bit by bit exactly where a word meets them all
 pub mod Bits
+-- the masks of literals are passed by the words that meet them, and are compatible where one word meets both
 pub mod Masks
+-- `renumbered` numbers letters in reading order, and changes neither size nor rows
 pub mod Numbering
+-- each list of letters at fault has exactly the letters of which the rule's statement holds
 pub mod Rules
+-- monitors that the tests let through keep the rules, so the watch is right
 pub mod Accept
+-- `shape` answers with a rule exactly at the lowest letter at fault, where the rules before it find none
 pub mod Shaped
+-- monitors that keep rule 10 and have at most 256 letters have fewer than 1,024 rows
 pub mod RowCount
+-- what fits, fits up to each of its ticks; `e*` and a monitor are as F9 and F13 say, whatever the bound on rounds
 pub mod Prefix
+-- where the walk over rows stays within its count a greater count changes nothing
 pub mod Ends
+-- over rows that hold a monitor the walk is the machine's step, within four calls for each row
 pub mod Walk
+-- the replies that the meaning fixes are the right ones, no others are, and the machine gives the same
 pub mod Calls
+-- what holds of every outcome of a choice, of a name's kind, of a fault, holds of the step
 pub mod Steps
+-- all that can come of judging a token, by what was expected and what the token is
 pub mod Outcomes
+-- reading stops at the end and at a knot; from a position on it is judging the token there and reading on behind it
 pub mod Stops
+-- what 8, 9 and 10 say of a monitor follows from an expression's parts, without copying
 pub mod Summary
+-- a monitor whose letters are numbered from k on goes, keeps and writes as the one numbered from 0
 pub mod Shifted
+-- the rows laid out are one for each letter and each operator, no more, and hold the monitors
 pub mod Rows
+-- a refusal names the token that is judged, or with 6 the wide wire before it, and is kept whatever stands behind
 pub mod Blame
+-- what is read lies within its wires and stores, its numbers fit, and a letter has two store tests and two writes at most
 pub mod Within
+-- what the grammar derives is read
 pub mod GrammarReads
+-- what is read is derived by the grammar
 pub mod GrammarDerives
+-- a text is read as a program exactly if it is short and that program by the grammar, and it is one at most
 pub mod GrammarExact
+-- where fewer than 128 names are declared some name of seven letters is free
 pub mod FreeName
+-- what reading keeps: every input has a wire, a name that is being declared is free, all names are ones that a text can have
 pub mod Sound
+-- from each state that reading can be in, the tokens that end the text, where names and limits leave any
 pub mod Finish
+-- tokens that can be followed to a text need what `Spare` asks; where there is enough of all it is there
 pub mod Spared
+-- a text is refused exactly at the token with which no text of the grammar can begin, behind tokens that can begin one
 pub mod Viable
+-- the bytes before a refused token can be followed by bytes to a text of the grammar
 pub mod Completed
+-- an accepted text keeps the rules, has few letters, and the machine answers every list of calls on it as the meaning does
 pub mod Openings
+-- the shared examples hold, computed from the texts' bytes; no words at all fit every monitor
 pub mod Examples
+-- opening accepts the acceptable texts, refuses the other texts of the grammar with 8 to 12 as stated, and all others by reading
 pub mod Exactly

@@ -22,14 +22,15 @@ use Rattle.meaning.specs.Names.{Program}
 use Rattle.meaning.specs.Opening
 use Rattle.meaning.specs.Opening.{Opened, asOpened, tooLong, misshapen, openProgram, openText}
 use Rattle.meaning.specs.Table.{HoldsAll, laidAll, asTable}
-use Rattle.meaning.specs.Calls.{replies}
-use Rattle.meaning.specs.Positions.{machineReplies}
+use Rattle.meaning.specs.Calls.{opening, stateFrom, replies, standing}
+use Rattle.meaning.specs.Positions.{opened, answer, moved, machineReplies}
 use Rattle.meaning.proofs.ListLaws.{clash, cons-∈, no-∈, one-∈, map-∈, append-∈}
 use Rattle.meaning.proofs.Numbering.{renumbered-size, renumbered-rows, renumbered-ordered}
 use Rattle.meaning.proofs.Rows.{rows-no-more, program-held}
 use Rattle.meaning.proofs.RowCount.{rows-below-1024, total-renumbered}
 use Rattle.meaning.proofs.Rules.{unsatisfiable-at, ambiguous-at}
-use Rattle.meaning.proofs.Calls.{calls-right}
+use Rattle.meaning.proofs.Calls.{Alike, calls-right, states-right}
+use Rattle.meaning.proofs.Watch.{Tracks}
 use Rattle.meaning.proofs.Within.{Each, Within, LetterWithin, ExpWithin, read-within}
 
 -- ---- accepted: nothing was wrong
@@ -123,6 +124,12 @@ module _ (text : List ℕ) (o : Opened) (e : openText text ≡ value o) where
   -- The machine of active positions answers every list of calls as the definitions do.
   pub machine-right : (ws : List ℕ) → machineReplies (o .monitors) (o .initial) (o .wires) ws ≡ replies (o .monitors) (o .initial) (o .wires) ws
   machine-right ws = calls-right (o .monitors) all-read (o .initial) (o .wires) ws
+
+  -- And it stands then where their meaning does.
+  pub machine-stands : (ws : List ℕ)
+      → Alike (λ v h. Tracks (o .monitors) h v) (stateFrom (answer (o .monitors)) (moved (o .monitors)) (o .wires) (opening (opened (o .monitors) (o .initial))) ws)
+      (standing (o .monitors) (o .initial) (o .wires) ws)
+  machine-stands ws = states-right (o .monitors) all-read (o .initial) (o .wires) ws
 
 -- ---- rules 9 and 12 of a program that reading gives are those of words
 

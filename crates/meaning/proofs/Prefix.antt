@@ -179,7 +179,7 @@ star-exactly e K k t ts = (
       (goes e (runs (star e) K) t ts b)),
 )
 
--- "A monitor is its expression, followed by itself for ever."
+-- F13: "as often as m ends it is asked once more"
 pub monitor-exactly : (m : Exp) (t : Tick) (ts : List Tick) → Some (monitor m (t ∷ ts)) ↔ Some (runs m (monitor m) (t ∷ ts))
 monitor-exactly m t ts =
     let unrolled = star-exactly m nothing refl t ts in

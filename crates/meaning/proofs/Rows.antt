@@ -39,7 +39,7 @@ laid-length r up (alt e f) = two-long r e f (laid-length (suc r) r e) (laid-leng
 laid-length r up (star e) = omega (arith, laid-length (suc r) r e)
 laid-length r up (pipe e f) = two-long r e f (laid-length (suc r) r e) (laid-length (suc r + rows e) r f)
 
--- "one row for each letter and each operator, counted after opening, no more"
+-- S3: "a row for each letter and each operator (`,` `||` `*` `@`) of all monitors after opening"
 pub rows-no-more : (r : ℕ) (ms : List Exp) → length (laidAll r ms) ≡ total rows ms
 unfolding laidAll
 rows-no-more r [] = refl

@@ -22,14 +22,6 @@ use Rattle.meaning.proofs.ListLaws.{each-append, clash}
 pub counted-two : (a b : ℕ) → counted (a + b) ≡ counted (counted a + counted b)
 counted-two a b = omega arith
 
--- Behind n letters, more than 256 are told from what is kept.
-pub counted-over : (n a : ℕ) → ltb 256 (n + a) ≡ ltb 256 (n + counted a)
-counted-over n a = by (ltb 256 (n + a)) refl
-  where
-    by : (b : Bool) → ltb 256 (n + a) ≡ b → b ≡ ltb 256 (n + counted a)
-    by true e = sym (lt-ltb 256 (n + counted a) (omega (arith, ltb-true 256 (n + a) e)))
-    by false e = sym (le-ltb 256 (n + counted a) (omega (arith, ltb-false 256 (n + a) e)))
-
 -- ---- the lowest of a list
 
 min-assoc : (a b c : ℕ) → min (min a b) c ≡ min a (min b c)

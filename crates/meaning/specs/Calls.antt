@@ -1,4 +1,4 @@
--- The replies to a list of tick calls on one watch, from its opening on.
+-- The replies to a list of tick calls on one watch, from its opening on (docs/REFERENCE.md, W1 to W10).
 use mathlib.Core.List.{List, [], _∷_, _++_}
 use mathlib.Core.Bool.{Bool, true, false, not, cond}
 use mathlib.Core.Path.{_≡_}
@@ -9,8 +9,9 @@ use lib.ListN.{length, take, getD}
 use Rattle.meaning.specs.Lists.{any, count, only}
 use Rattle.refusals.specs.Numbers as number
 use Rattle.meaning.specs.Expression.{Exp}
-use Rattle.meaning.specs.Fit.{Verdict, ok as clean, bad as broken, start, onward, history, judged}
+use Rattle.meaning.specs.Fit.{Verdict, ok as clean, bad as broken, History, start, onward, history, judged}
 
+-- W2: "The answer is ok, bad with a monitor, or refused with a number". X12: a refused call "by itself" has place 0.
 pub data Reply : Type 0 where
   ok : Reply
   bad : (monitor : ℕ) → Reply
@@ -20,14 +21,15 @@ abbrev pub replyOf : Verdict → Reply
 replyOf clean = ok
 replyOf (broken m) = bad m
 
--- "At most 1,000,000 ticks."
+-- N6: "ticks of a watch | 1,000,000"
 abbrev pub mostTicks : ℕ
 mostTicks = 1000000
 
+-- W4: "1,000,000 earlier calls were ok"
 abbrev pub isFull : (oks : ℕ) → Bool
 isFull oks = leb mostTicks oks
 
--- the word has a bit above the wires
+-- W5: "the word has a bit above the wires: it is 2^k or more, k being the text's number of wires"
 abbrev pub isStray : (wires word : ℕ) → Bool
 isStray wires w = leb (2 ^ wires) w
 
@@ -37,14 +39,15 @@ pub record State (S : Type 0) : Type 0 where
   pub oks : ℕ
   pub stopped : Bool
 
+-- W1: "tick count 0, .. and is not stopped"
 abbrev pub opening : {S : Type 0} → S → State S
 opening s = record { inner = s; oks = 0; stopped = false }
 
 -- S is the history of the words, or the watch of the machine; judge and move are what it makes of a word.
 module _ {S : Type 0} where
-  -- "A call is refused with 16 exactly if an earlier call of the list was bad; if none was, with 17 exactly if 1,000,000
-  -- earlier calls were ok; if neither, with 15 exactly if its word has a bit above the text's wires. Every other call is
-  -- ok or bad." The state holds just what this asks of the earlier calls: only ok adds to oks, and only bad sets stopped.
+  -- X11: "a call by 16, 17 and then 15". W3: "an earlier call on this watch was bad", W4: "none was bad, and 1,000,000
+  -- earlier calls were ok", W5: "neither of these, and the word has a bit above the wires", W6: "Every other call is judged."
+  -- The state holds just what this asks of the earlier calls: only ok adds to oks, and only bad sets stopped.
   unfoldable pub reply : (judge : S → ℕ → Verdict) (wires : ℕ) → State S → ℕ → Reply
   reply judge wires s w =
       cond (s .stopped) (refused number.stopped 0)
@@ -52,23 +55,33 @@ module _ {S : Type 0} where
       (cond (isStray wires w) (refused number.stray 0)
       (replyOf (judge (s .inner) w))))
 
-  -- "The words are those of the calls not refused, in order": an ok call's word is moved by. After a bad one "the watch is
-  -- then stopped and otherwise as before the tick". A refusal "changes no watch".
+  -- W7: "After ok the word is the last of the words so far, the tick count is one higher". W8: "After bad the watch is
+  -- stopped, and in all else as before the call". W9: "A refused call leaves the watch as it was".
   abbrev pub after : (move : S → ℕ → S) → State S → ℕ → Reply → State S
   after move s w ok = record { inner = move (s .inner) w; oks = suc (s .oks); stopped = s .stopped }
   after move s w (bad m) = record { inner = s .inner; oks = s .oks; stopped = true }
   after move s w (refused n p) = s
 
-  -- "Each call gets the watch that the call before it returned or left"
+  -- W10: "each other one the watch that the call before it left"
   unfoldable pub repliesFrom : (judge : S → ℕ → Verdict) (move : S → ℕ → S) (wires : ℕ) → State S → List ℕ → List Reply
   repliesFrom judge move wires s [] = []
   repliesFrom judge move wires s (w ∷ ws) = reply judge wires s w ∷ repliesFrom judge move wires (after move s w (reply judge wires s w)) ws
 
--- the replies that the words' meaning fixes, from the monitors, the first store values and the number of wires
+  -- what the calls leave
+  unfoldable pub stateFrom : (judge : S → ℕ → Verdict) (move : S → ℕ → S) (wires : ℕ) → State S → List ℕ → State S
+  stateFrom judge move wires s [] = s
+  stateFrom judge move wires s (w ∷ ws) = stateFrom judge move wires (after move s w (reply judge wires s w)) ws
+
+-- the replies that the words' meaning fixes, from the monitors, the first store values and the number of wires;
+-- W10: "the first gets the watch that opening gave"
 abbrev pub replies : List Exp → List ℕ → ℕ → List ℕ → List Reply
 replies ms initial wires ws = repliesFrom (judged ms) (onward ms) wires (opening (start initial)) ws
 
--- ---- the same sentence, of one call and the list of those before it ----
+-- and what then stands: the history of the ok words with the store values, their number, and whether a call was bad
+abbrev pub standing : List Exp → List ℕ → ℕ → List ℕ → State History
+standing ms initial wires ws = stateFrom (judged ms) (onward ms) wires (opening (start initial)) ws
+
+-- ---- the same clauses, of one call and the list of those before it ----
 
 abbrev pub isOk : Reply → Bool
 isOk ok = true
@@ -85,20 +98,20 @@ isRefused ok = false
 isRefused (bad m) = false
 isRefused (refused n p) = true
 
--- the words of the calls not refused
+-- the words of the calls not refused (W10: up to a bad one "those of the ok calls, in order")
 abbrev pub judgedWords : List ℕ → List Reply → List ℕ
 judgedWords [] rs = []
 judgedWords (w ∷ ws) [] = []
 judgedWords (w ∷ ws) (r ∷ rs) = only (not (isRefused r)) (w ∷ []) ++ judgedWords ws rs
 
--- the call with word w, after calls with the words ws and the replies rs, is rightly answered with r
+-- W3 to W6: the call with word w, after calls with the words ws and the replies rs, is rightly answered with r
 pub record Rightly (ms : List Exp) (initial : List ℕ) (wires : ℕ) (ws : List ℕ) (rs : List Reply) (w : ℕ) (r : Reply) : Type 0 where
-  pub stopped : r ≡ refused 16 0 ↔ T (any isBad rs)
-  pub full : r ≡ refused 17 0 ↔ (T (not (any isBad rs)) × (count isOk rs ≡ 1000000))
-  pub stray : r ≡ refused 15 0 ↔ (T (not (any isBad rs)) × (count isOk rs ≡ 1000000 → ⊥) × (2 ^ wires ≤ w))
-  pub other : T (not (any isBad rs)) → (count isOk rs ≡ 1000000 → ⊥) → w < 2 ^ wires → r ≡ replyOf (judged ms (history ms initial (judgedWords ws rs)) w)
+  pub stopped : r ≡ refused number.stopped 0 ↔ T (any isBad rs)
+  pub full : r ≡ refused number.full 0 ↔ (T (not (any isBad rs)) × (count isOk rs ≡ mostTicks))
+  pub stray : r ≡ refused number.stray 0 ↔ (T (not (any isBad rs)) × (count isOk rs ≡ mostTicks → ⊥) × (2 ^ wires ≤ w))
+  pub other : T (not (any isBad rs)) → (count isOk rs ≡ mostTicks → ⊥) → w < 2 ^ wires → r ≡ replyOf (judged ms (history ms initial (judgedWords ws rs)) w)
 
--- every call of the list is
+-- W10: every call of the list is
 abbrev pub AllRightly : List Exp → List ℕ → ℕ → List ℕ → List Reply → Type 0
 AllRightly ms initial wires ws rs =
     (n : ℕ) → n < length ws → Rightly ms initial wires (take n ws) (take n rs) (getD ws n 0) (getD rs n ok)

@@ -1,4 +1,4 @@
--- The shared list of examples: rule texts and words with their right sheets, each from 01's "Proving rows and misreadings" or "The printed sheet".
+-- The shared list of examples: rule texts and words with their right sheets (docs/REFERENCE.md, P1 to P7), which the customer's specification gives.
 -- Assumes nothing.
 use Prim.Native.Nat.{ℕ}
 use Prim.Native.String.{String}
@@ -10,19 +10,19 @@ pub record Example : Type 0 where
   pub words : List ℕ
   pub sheet : List ℕ
 
--- "With one-bit wires a, b, c in that order and one production"
+-- with single wires a, b and c in this order, and one production
 abbrev overAbc : String → List ℕ
 overAbc e = bytes "input a; input b; input c; p -> " ++ bytes e ++ bytes "; monitor p;"
 
 abbrev abc : String → List ℕ → String → Example
 abc e ws s = record { text = overAbc e; words = ws; sheet = bytes s }
 
--- "with `input V; input D[7:0]; internal h[7:0] = 0;`"
+-- with a wire, a field, and a store of the field's width
 abbrev held : String → List ℕ → String → Example
 held e ws s =
     record { text = bytes "input V; input D[7:0]; internal h[7:0] = 0; p -> " ++ bytes e ++ bytes "; monitor p;"; words = ws; sheet = bytes s }
 
--- the rows marked P
+-- S11, S13, S12 and S10, each broken; S3: both counts; F10, F17 and F20: threads that run side by side, and a test of what was written a tick before
 abbrev pub proving : List Example
 proving =
     abc "(a*)*" [] "refused 10 0 0\n"
@@ -42,7 +42,7 @@ proving =
     "rows 3 letters 2\n0 000000000000000b ok\n1 000000000000000d bad 0\n"
     ∷ []
 
--- "The printed sheet": its own text and trace
+-- P3 and P4: a sheet that ends with a bad tick
 abbrev pub sample : Example
 sample = record {
   text = bytes "input SCAN;\ninput CUT;\nline -> SCAN @ (CUT || !CUT, CUT) || !SCAN;\nmonitor line;\n";
@@ -50,7 +50,7 @@ sample = record {
   sheet = bytes "rows 9 letters 5\n0 0000000000000001 ok\n1 0000000000000000 ok\n2 0000000000000000 bad 0\n";
 }
 
--- The misreadings, each with words on which it would answer otherwise.
+-- Misreadings of F11, F20, F17 and S8, each with words on which it would answer otherwise.
 abbrev pub misreadings : List Example
 misreadings =
     -- a thread started before its left operand is known to have ended: `c` would be asked for at tick 1, and the watch would go bad there

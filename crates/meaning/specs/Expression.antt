@@ -1,42 +1,44 @@
--- Letters and expressions, productions already opened.
+-- Letters and expressions, productions already opened (docs/REFERENCE.md, S1 to S3, with the forms of G1).
 use mathlib.Core.List.{List, [], _∷_, _++_}
 use mathlib.Core.Path.{_≡_}
 use Prim.Native.Nat.{ℕ, suc, _+_, _/_, _%_, _^_}
 
 -- ---- letters ----
 
--- "A literal is a one-bit wire, a wire bit `N[i]`, either with `!` before it, `wire == number`, `wire == store`,
--- `store == number`". Wires are the bits lo to lo + width - 1 of the word; a one-bit wire or a wire bit is a field of
--- width 1 that is 1, or 0 with `!`.
+-- G8: "It is `N` for a single wire, `N[i]` for a bit of any wire, either of them behind `!`, `wire == number`,
+-- `wire == store`, `store == number`". N4: a wire has "the bits lo to lo+width-1 in the word"; a single wire or a bit is a
+-- field of width 1 that is 1, or 0 with `!`.
 pub data Literal : Type 0 where
   wire : (lo width number : ℕ) → Literal  -- wire == number
   wire-store : (lo width store : ℕ) → Literal  -- wire == store
   store : (store number : ℕ) → Literal  -- store == number
 
--- "a write is `store <- wire;` or `store <- number;`"
+-- G15: "A write is `store <- number;` .. or `store <- wire;`"
 pub data Write : Type 0 where
   from-wire : (store lo width : ℕ) → Write  -- store <- wire;
   from-number : (store number : ℕ) → Write  -- store <- number;
 
--- "A letter is literals joined by `&`, then optionally .. writes"; number is its own in its monitor.
+-- G14: "A letter is one or more literals joined by `&`, and then perhaps braces with one or two writes."; number is its
+-- own in its monitor (S2).
 pub record Letter : Type 0 where
   pub number : ℕ
   pub literals : List Literal
   pub writes : List Write
 
--- the store tests among literals
+-- N7: "literals `wire == store` and `store == number`"
 unfoldable pub storeTests : List Literal → ℕ
 storeTests [] = 0
 storeTests (wire lo width v ∷ ls) = storeTests ls
 storeTests (wire-store lo width s ∷ ls) = suc (storeTests ls)
 storeTests (store s v ∷ ls) = suc (storeTests ls)
 
--- the value of wires in a word
+-- N4: "(w / 2^lo) mod 2^width"
 abbrev pub field : (lo width word : ℕ) → ℕ
 field lo width word = (word / 2 ^ lo) % 2 ^ width
 
 -- ---- expressions ----
 
+-- G17: the operators
 pub data Exp : Type 0 where
   letter : Letter → Exp
   seq : Exp → Exp → Exp  -- e , f
@@ -44,7 +46,7 @@ pub data Exp : Type 0 where
   star : Exp → Exp  -- e*
   pipe : Exp → Exp → Exp  -- e @ f
 
--- the letters in reading order
+-- S2: the letters "from left to right after opening"
 unfoldable pub letters : Exp → List Letter
 letters (letter l) = l ∷ []
 letters (seq e f) = letters e ++ letters f
@@ -52,7 +54,7 @@ letters (alt e f) = letters e ++ letters f
 letters (star e) = letters e
 letters (pipe e f) = letters e ++ letters f
 
--- how many letters
+-- S3: how many letters
 unfoldable pub size : Exp → ℕ
 size (letter l) = 1
 size (seq e f) = size e + size f
@@ -60,7 +62,7 @@ size (alt e f) = size e + size f
 size (star e) = size e
 size (pipe e f) = size e + size f
 
--- "one row for each letter and each operator, counted after opening"
+-- S3: "a row for each letter and each operator"
 unfoldable pub rows : Exp → ℕ
 rows (letter l) = 1
 rows (seq e f) = 1 + rows e + rows f
@@ -68,13 +70,13 @@ rows (alt e f) = 1 + rows e + rows f
 rows (star e) = 1 + rows e
 rows (pipe e f) = 1 + rows e + rows f
 
--- a letter that is read; its number is given when the program is opened
+-- a letter that is read; its number is given when the program is opened (S2)
 abbrev pub aLetter : List Literal → List Write → Exp
 aLetter ls ws = letter (record { number = 0; literals = ls; writes = ws })
 
--- ---- "Letters are numbered from 0 within a monitor in reading order" ----
+-- ---- S2: "The letters of a monitor are numbered from 0, from left to right after opening." ----
 
--- the same expression with its letters numbered from k; a monitor's are from 0
+-- S2: the same expression with its letters numbered from k; a monitor's are from 0
 unfoldable pub renumbered : ℕ → Exp → Exp
 renumbered k (letter l) = letter (record { number = k; literals = l .literals; writes = l .writes })
 renumbered k (seq e f) = seq (renumbered k e) (renumbered (k + size e) f)

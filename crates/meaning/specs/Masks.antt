@@ -1,4 +1,5 @@
--- The wire literals of a letter as two numbers, which is how code keeps them: the wires looked at, and the values wanted there. Assumes nothing.
+-- The wire literals of a letter (docs/REFERENCE.md, S9) as two numbers, which is how code keeps them: the wires looked at, and the values wanted there
+-- (S1: "all that need be kept of them is which bits must be 1, which 0"). Assumes nothing.
 use mathlib.Core.Bool.{Bool}
 use mathlib.Core.List.{List, [], _∷_}
 use Prim.Native.Nat.{ℕ, _*_, _-_, _^_}

@@ -1,17 +1,19 @@
--- What a rule text declares and what it comes to: names and what they stand for, declarations, and the program. Assumes nothing.
+-- What a rule text declares and what it comes to (docs/REFERENCE.md, N1 to N3): names and what they stand for, declarations, and the program. Assumes nothing.
 use mathlib.Core.List.{List, [], _∷_, _++_}
 use Prim.Native.Nat.{ℕ, _+_}
 use lib.ListN.{length}
 use Rattle.lexer.specs.Bytes.{Entry}
 use Rattle.meaning.specs.Expression.{Literal, Exp}
 
--- What a name stands for. A production's name stands for a copy of its expression, so the expression has no names left in it.
+-- What a name stands for. N1: "A name is declared as one of four kinds". S1: production names "are replaced by copies of their expressions until letters
+-- and operators alone are left, and in each letter defines by their literals", so no names are left in either.
 pub data Meaning : Type 0 where
   anInput : (lo width : ℕ) → Meaning
   aStore : (number width : ℕ) → Meaning
   aDefine : List Literal → Meaning
   aProduction : Exp → Meaning
 
+-- N1: "All kinds share one set of names"
 pub record Names : Type 0 where
   pub declared : List (Entry Meaning)
   -- how many wires of the word are taken
@@ -22,6 +24,7 @@ pub record Names : Type 0 where
 abbrev pub noNames : Names
 noNames = record { declared = []; wires = 0; initial = [] }
 
+-- G1, `declaration`
 pub data Declaration : Type 0 where
   newInput : List ℕ → (width : ℕ) → Declaration
   newStore : List ℕ → (width initial : ℕ) → Declaration
@@ -31,7 +34,7 @@ pub data Declaration : Type 0 where
 abbrev pub withName : List ℕ → Meaning → List (Entry Meaning) → List (Entry Meaning)
 withName s m es = record { spelling = s; meaning = m } ∷ es
 
--- "Wires take the bits of a 64-bit word from bit 0 in order."
+-- N3: "from bit 0 on and without gaps, in the order of their declarations". G4: "v is its first value".
 unfoldable pub declare : Declaration → Names → Names
 declare (newInput s width) ns =
     record { declared = withName s (anInput (ns .wires) width) (ns .declared); wires = ns .wires + width; initial = ns .initial }
@@ -40,7 +43,7 @@ declare (newStore s width v) ns =
 declare (newDefine s ls) ns = record { declared = withName s (aDefine ls) (ns .declared); wires = ns .wires; initial = ns .initial }
 declare (newProduction s e) ns = record { declared = withName s (aProduction e) (ns .declared); wires = ns .wires; initial = ns .initial }
 
--- What a text comes to: the number of wires, the stores' first values, and the monitors.
+-- What a text comes to: the number of wires, the stores' first values, and the monitors (G2: "numbered in this order").
 pub record Program : Type 0 where
   pub wires : ℕ
   pub initial : List ℕ

@@ -1,4 +1,4 @@
--- The machine of active positions (01: marks): it keeps the letters just met, and at each tick asks for what follows each.
+-- The machine of active positions (01: marks): it keeps the letters just met, and at each tick asks for what follows each (docs/REFERENCE.md, W7).
 use mathlib.Core.List.{List, [], _∷_, _++_, map}
 use mathlib.Core.Bool.{Bool, cond}
 use mathlib.Core.Option.{Option, none, some}
@@ -82,12 +82,12 @@ leave n (alt e f) K t = cond (has n e) (leave n e K t) (leave n f K t)
 leave n (star e) K t = leave n e (ask (star e) K) t
 leave n (pipe e f) K t = cond (has n e) (leave n e (λ u. joined (K u) (ask f over u)) t) (leave n f over t)
 
--- The active positions of one monitor: its start, or the letters met at the last tick.
+-- W7: "the state of a monitor is the set of its letters met at the last tick, or its start"
 pub data Positions : Type 0 where
   at-start : Positions
   on : List ℕ → Positions
 
--- every position must go on
+-- every position must go on; F17: "Each start must fit by itself, and none replaces an older one."
 unfoldable pub goAll : (ℕ → Way) → List ℕ → Way
 goAll W [] t = some []
 goAll W (n ∷ ns) t = joined (W n t) (goAll W ns t)
@@ -104,11 +104,11 @@ pub record Watch : Type 0 where
   pub positions : List Positions
   pub stores : List ℕ
 
--- "Opening gives .. first store values and one start mark a monitor."
+-- W1: "the first values in its stores and each monitor at its start"
 abbrev pub opened : List Exp → List ℕ → Watch
 opened ms initial = record { positions = map (λ m. at-start) ms; stores = initial }
 
--- One tick of all monitors: the letters met in each, or the lowest monitor that no longer fits.
+-- One tick of all monitors: the letters met in each, or W6: "the lowest monitor that does not fit".
 pub data Ticked : Type 0 where
   fine : List (List ℕ) → Ticked
   wrong : (monitor : ℕ) → Ticked
@@ -131,7 +131,7 @@ writeEach t [] nss σ = σ
 writeEach t (m ∷ ms) [] σ = σ
 writeEach t (m ∷ ms) (ns ∷ nss) σ = writeEach t ms nss (writeMet t m ns σ)
 
--- the positions of m as a set: each letter of ns once, in reading order
+-- the positions of m as a set: each letter of ns once, in reading order; F17: starts "at the same letter at the same tick .. count as one"
 unfoldable pub kept : Exp → List ℕ → List ℕ
 kept m ns = each (letters m) (λ l. only (member (l .number) ns) (l .number ∷ []))
 
@@ -146,7 +146,7 @@ seen v w = record { word = w; stores = v .stores }
 abbrev pub ticked : List Exp → Watch → ℕ → Ticked
 ticked ms v w = goEach 0 ms (v .positions) (seen v w)
 
--- the watch after the tick; "the marks after a tick are a new set"; after a bad one it is "as before the tick"
+-- the watch after the tick (W7); after a bad one, W8: "in all else as before the call"
 abbrev pub movedBy : List Exp → Watch → ℕ → Ticked → Watch
 movedBy ms v w (fine nss) = record { positions = keptEach ms nss; stores = writeEach (seen v w) ms nss (v .stores) }
 movedBy ms v w (wrong i) = v

@@ -1,5 +1,5 @@
--- Reading a rule text (01, "The rule text"). The tokens are judged one after the other, each with those before it: what is expected next, and what has been declared so
--- far, is all that reading keeps. So the earliest token at fault is the one refused. A name that is a wire wider than one, bare, is refused when the next token shows it.
+-- Reading a rule text (docs/REFERENCE.md, X2 to X8). X3: "Each token is judged by those before it alone": what is expected next, and what has been declared so far, is all
+-- that reading keeps. So X2: "the earliest token with a fault is told". A wire that is bare (G10) is refused when the next token shows it.
 -- Assumes nothing.
 use mathlib.Core.Bool.{Bool, true, false, not, cond, _&&_, _||_}
 use mathlib.Core.List.{List, [], _∷_, _++_}
@@ -40,7 +40,7 @@ abbrev pub join : (Exp → Exp → Exp) → Option Exp → Exp → Exp
 join op none e = e
 join op (some d) e = op d e
 
--- what the operand e makes with an `@`, with the `,` and with the `||` before it; "the last two group to the left"
+-- what the operand e makes with an `@`, with the `,` and with the `||` before it; G17: "The last two group to the left"
 abbrev pub piped : Level → Exp → Exp
 piped l e = join pipe (l .left) e
 
@@ -66,6 +66,7 @@ pub data Context : Type 0 where
   inDefine : List ℕ → Context
   inLetter : Open → Context
 
+-- X8: the places of a text
 pub data Expect : Type 0 where
   -- a declaration, or the monitor statement
   statement : Expect
@@ -110,7 +111,7 @@ pub data Expect : Type 0 where
   monitorMore : List Exp → Expect
   textEnd : List Exp → Expect
 
--- what a token leads to
+-- what a token leads to; X1: "A refusal is a number and a place."
 pub data Step : Type 0 where
   go : Names → Expect → Step
   finished : Program → Step
@@ -118,7 +119,7 @@ pub data Step : Type 0 where
 
 -- ---- judging a token
 
--- a token that is not allowed here: a knot is refused as that, any other token and the end as misplaced
+-- X4: "A knot is refusal 2 wherever it is come to. Any other token that X8 does not allow where it stands is refusal 3, misplaced, and so is the end."
 abbrev pub numberOf : Token → ℕ
 numberOf (token.name s) = misplaced
 numberOf (token.word w) = misplaced
@@ -130,6 +131,7 @@ numberOf (token.refused n) = n
 unfoldable pub notHere : Placed → Step
 notHere t = fault (numberOf (t .token)) (t .place)
 
+-- X2: "The place is the token's first byte"
 unfoldable pub atToken : ℕ → Placed → Step
 atToken number t = fault number (t .place)
 
@@ -157,6 +159,7 @@ ifName (token.sign n) then other = other
 ifName token.end then other = other
 ifName (token.refused n) then other = other
 
+-- X4: "A reserved word is no name: where a name is wanted it is 3."
 unfoldable pub onName : Placed → (List ℕ → Step) → Step
 onName t then = ifName (t .token) then (notHere t)
 
@@ -171,7 +174,7 @@ ifNumber (token.refused n) then other = other
 unfoldable pub onNumber : Placed → (ℕ → Step) → Step
 onNumber t then = ifNumber (t .token) then (notHere t)
 
--- the first fault that holds, in the order of 01's numbers, else what follows
+-- the first fault that holds, X2: "if it has several the lowest number", else what follows
 unfoldable pub unless : Bool → ℕ → Placed → Step → Step
 unless wrong number t next = choose wrong (atToken number t) next
 
@@ -179,7 +182,8 @@ abbrev pub isKnown : Option Meaning → Bool
 isKnown none = false
 isKnown (some m) = true
 
--- A new name: 5 where it is declared, 6 where no wire is left for it, 7 where there are 128 names or no room for one of its kind.
+-- A new name. X5: "A name to be declared that is declared already, as whatever kind, is refusal 5"; X6: 6 "at the name to be declared, if 64 wires stand already"; X7: 7 at
+-- "the 129th name or the 17th store".
 unfoldable pub newName : Names → Placed → (noWire full : Bool) → (List ℕ → Step) → Step
 newName ns t noWire full next =
     onName t (λ s.
@@ -187,7 +191,7 @@ newName ns t noWire full next =
     (unless noWire oversize t
     (unless (full || leb 128 (length (ns .declared))) crowded t (next s))))
 
--- by the kind of a name
+-- by the kind of a name (N1)
 unfoldable pub byKind : Option Meaning → (ℕ → ℕ → Step) → (ℕ → ℕ → Step) → (List Literal → Step) → (Exp → Step) → Step → Step
 byKind none i s d p other = other
 byKind (some (anInput lo width)) i s d p other = i lo width
@@ -195,10 +199,11 @@ byKind (some (aStore n width)) i s d p other = s n width
 byKind (some (aDefine ls)) i s d p other = d ls
 byKind (some (aProduction e)) i s d p other = p e
 
+-- X4: "a name of another kind, and one that is not declared, is refusal 4, unknown"
 unfoldable pub known : Names → Placed → (ℕ → ℕ → Step) → (ℕ → ℕ → Step) → (List Literal → Step) → (Exp → Step) → Step
 known ns t i s d p = onName t (λ n. byKind (lookup n (ns .declared)) i s d p (atToken unknown t))
 
--- a name of another kind than is allowed here
+-- a name of another kind than is allowed here (X4)
 abbrev pub noPair : Placed → ℕ → ℕ → Step
 noPair t a b = atToken unknown t
 
@@ -210,7 +215,7 @@ noExp t e = atToken unknown t
 
 -- ---- literals
 
--- "2 store tests .. a letter after defines are opened": so many more are too many. A define may hold any number.
+-- N7: so many more are too many for a letter, whose tests are counted "with those that its defines stand for". "A define by itself may hold any number of them".
 abbrev pub tooMany : Context → List Literal → ℕ → Bool
 tooMany (inDefine s) ls more = false
 tooMany (inLetter o) ls more = ltb 2 (storeTests ls + more)
@@ -219,7 +224,8 @@ tooMany (inLetter o) ls more = ltb 2 (storeTests ls + more)
 abbrev pub withLiteral : Names → Context → List Literal → Literal → Step
 withLiteral ns c ls l = go ns (literalMore c (ls ++ (l ∷ [])))
 
--- the name that begins a literal; `pr` is what a production's name leads to here
+-- the name that begins a literal; `pr` is what a production's name leads to here. X7: "the name that takes a letter's store tests beyond two". G13: "Behind the name of
+-- a store that begins a literal stands `==`".
 unfoldable pub literalName : Names → Context → List Literal → Placed → (Exp → Step) → Step
 literalName ns c ls t pr =
     known ns t
@@ -230,7 +236,7 @@ literalName ns c ls t pr =
 
 -- ---- behind an operand
 
--- the levels around: a `)` closes the innermost, and `;` ends the production where none is open
+-- the levels around; G16: "a `)` if a parenthesis of this production is open, and the production's `;` if none is"
 abbrev pub onRightParen : Names → Open → Exp → List Level → Placed → Step
 onRightParen ns o e [] t = notHere t
 onRightParen ns o e (l ∷ ls) t = go ns (operandMore (record { name = o .name; level = l; outer = ls }) (whole (o .level) e) false)
@@ -243,7 +249,7 @@ abbrev pub isNone : Option Exp → Bool
 isNone none = true
 isNone (some e) = false
 
--- "`*` (once), `@` (once; more need parentheses), `,`, `||`"
+-- G16: "Behind an operand may stand `*`, `@`, `,`, `||`". G18: "An operand takes one `*`". G19: "one `@` at most".
 unfoldable pub behindOperand : Names → Open → Exp → Bool → Placed → Step
 behindOperand ns o e starred t =
     choose (is asterisk t && not starred) (go ns (operandMore o (star e) true))
@@ -254,6 +260,7 @@ behindOperand ns o e starred t =
     (choose (is semicolon t) (onSemicolon ns o e (o .outer) t)
     (notHere t))))))
 
+-- X8: "behind a literal (its name, `]`, or what is right of `==`) in a define | `&` `;`", "behind a literal in a letter | `&` `{`; as behind an operand"
 unfoldable pub behindLiteral : Names → Context → List Literal → Placed → Step
 behindLiteral ns (inDefine s) ls t =
     choose (is ampersand t) (go ns (literal (inDefine s) ls))
@@ -264,20 +271,20 @@ behindLiteral ns (inLetter o) ls t =
 
 -- ---- one token
 
--- "Parentheses may nest 32 deep."
+-- G20: "They nest 32 deep". X7: 7 "at the `(` that would be the 33rd open one".
 abbrev pub openParen : Names → Open → Placed → Step
 openParen ns o t =
     unless (leb 32 (length (o .outer))) crowded t
     (go ns (operand (record { name = o .name; level = newLevel; outer = o .level ∷ o .outer })))
 
--- "2 writes a letter"
+-- G14: "one or two writes". X7: 7 "at the written store of a letter's third write".
 abbrev pub writtenStore : Names → Open → List Literal → List Write → Placed → Step
 writtenStore ns o ls ws t =
     known ns t (noPair t)
     (λ s width. unless (leb 2 (length ws)) crowded t (go ns (sign leftArrow (writeValue o ls ws s width))))
     (noLiterals t) (noExp t)
 
--- `:0]`, and then what follows
+-- `:0]`, and then what follows; G5: "A number with another value is refusal 3 there."
 abbrev pub toZero : Expect → Expect
 toZero x = sign colon (nought (sign rightBracket x))
 
@@ -291,10 +298,11 @@ behindWord token.monitor = monitorName []
 abbrev pub ofWord : Names → token.Word → Step
 ofWord ns w = go ns (behindWord w)
 
--- the name of a production begins its statement
+-- the name of a production begins its statement; X5: 5 "before it is seen whether `->` follows"
 abbrev pub ofProduction : Names → Placed → Step
 ofProduction ns t = newName ns t false false (λ s. go ns (sign rightArrow (operand (record { name = s; level = newLevel; outer = [] }))))
 
+-- X8: "a statement's beginning | a reserved word; a name, for a production"
 abbrev pub begin : Names → Placed → Token → Step
 begin ns t (token.name s) = ofProduction ns t
 begin ns t (token.word w) = ofWord ns w
@@ -303,6 +311,7 @@ begin ns t (token.sign n) = notHere t
 begin ns t token.end = notHere t
 begin ns t (token.refused n) = notHere t
 
+-- G2: "One monitor statement follows and ends the text."
 abbrev pub atEnd : Names → List Exp → Placed → Token → Step
 atEnd ns ms t (token.name s) = notHere t
 atEnd ns ms t (token.word w) = notHere t
@@ -311,6 +320,8 @@ atEnd ns ms t (token.sign n) = notHere t
 atEnd ns ms t token.end = finished (programOf ns ms)
 atEnd ns ms t (token.refused n) = notHere t
 
+-- X8: "What may stand at each place of a text, and the faults that an allowed token can have there". The places of 6 are those of X6. At `wireMore`, G10: "A wire wider
+-- than one, with or without `!`, is bare if the next token, be it a knot or the end, is neither `[` nor `==`: refusal 6 at its name."; G9: "`!N == ..` is no literal".
 unfoldable pub step : Names → Expect → Placed → Step
 step ns statement t = begin ns t (t .token)
 step ns (sign k x) t = choose (is k t) (go ns x) (notHere t)
@@ -364,6 +375,7 @@ step ns (textEnd ms) t = atEnd ns ms t (t .token)
 
 -- ---- the whole text
 
+-- X3: "nothing behind a fault changes the answer"
 abbrev pub andThen : Step → (Names → Expect → Answer Program) → Answer Program
 andThen (go ns x) next = next ns x
 andThen (finished p) next = value p
@@ -374,6 +386,6 @@ unfoldable pub readOn : Names → Expect → List Placed → Answer Program
 readOn ns x [] = refused misplaced (byte 0)
 readOn ns x (t ∷ ts) = andThen (step ns x t) (λ ms y. readOn ms y ts)
 
--- "At most 16,384 bytes": "1 comes first, with place 0".
+-- T1: "a text with more is refusal 1"; X2: "Refusal 1 comes before all others."
 unfoldable pub read : List ℕ → Answer Program
 read text = cond (ltb 16384 (length text)) (refused overlong (byte 0)) (readOn noNames statement (tokens text))

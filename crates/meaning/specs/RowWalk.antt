@@ -1,4 +1,4 @@
--- The walk over the rows of a table: "being asked and being left send each other on through the rows". Assumes nothing.
+-- The walk over the rows of a table, which asking a row and leaving a row take turns in: fit (docs/REFERENCE.md, F6 to F10) for one tick, on rows. Assumes nothing.
 use mathlib.Core.Bool.{Bool, cond}
 use mathlib.Core.Option.{Option, none, some}
 use mathlib.Core.List.{List, []}

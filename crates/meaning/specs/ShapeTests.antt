@@ -1,5 +1,5 @@
--- The shape rules as tests that compute: for each rule the letters at fault, and the first rule with its lowest letter. proofs/Rules and proofs/Shaped tie them to the
--- statements of specs/Shape. Assumes nothing.
+-- The shape rules (docs/REFERENCE.md, S8 to S13 and X10) as tests that compute: for each rule the letters at fault, and the first rule with its lowest letter.
+-- proofs/Rules and proofs/Shaped tie them to the statements of specs/Shape. Assumes nothing.
 use mathlib.Core.List.{List, [], _∷_, _++_, map}
 use mathlib.Core.Bool.{Bool, false, not, _&&_}
 use mathlib.Core.Path.{_≡_}
@@ -10,12 +10,12 @@ use Rattle.meaning.specs.Lists.{_∈_, each, any, all, null, only}
 use Rattle.meaning.specs.Expression.{Literal, wire, wire-store, store, Letter, Exp, star, letters, Ordered}
 use Rattle.meaning.specs.Shape.{nullable, first, last, follow, threads, parts, head}
 
--- "Letters are side by side if both can come first in a monitor or in a thread, or both can come next after the same
--- letter; the last letters of a monitor are followed by its first ones", as in a star: the groups of letters side by side
+-- S8: the groups of letters side by side. S6: "In a monitor as a whole its first letters come next after its last ones",
+-- as in a star.
 abbrev pub groups : Exp → List (List Letter)
 groups m = map first (m ∷ threads m) ++ map (λ l. follow (l .number) (star m)) (letters m)
 
--- the same as tests, for literals whose wires are in the word and whose number is not too large (rule 6)
+-- the same as tests, for literals whose wires are in the word and whose number fits (N5)
 abbrev pub Sized : Literal → Type 0
 Sized (wire lo width v) = (v < 2 ^ width) × (lo + width ≤ 64)
 Sized (wire-store lo width s) = Unit {0}
@@ -45,10 +45,11 @@ below (suc n) = n ∷ below n
 abbrev pub bits : List ℕ
 bits = below 64
 
--- no bit is asked to be both 0 and 1
+-- S10: whether no "bit would have to be both 0 and 1"
 unfoldable pub agree : List Literal → Bool
 agree ls = all (λ i. not (any (asks i 0) ls && any (asks i 1) ls)) bits
 
+-- S13: "some word meets the wire literals of both"
 unfoldable pub together : Letter → Letter → Bool
 together x y = agree (x .literals ++ y .literals)
 
@@ -57,19 +58,19 @@ together x y = agree (x .literals ++ y .literals)
 abbrev pub numbers : (Letter → Bool) → List Letter → List ℕ
 numbers test ls = each ls (λ l. only (test l) (l .number ∷ []))
 
--- 9, 01: impossible. "a letter whose wire literals no word meets"
+-- 9, 01: impossible. S10: "no word meets the wire literals of some letter"
 unfoldable pub unsatisfiable : Exp → List ℕ
 unsatisfiable m = numbers (λ l. not (agree (l .literals))) (letters m)
 
--- 10, 01: hollow. "a star's body, an operand of `@` or a monitor is hollow", at "the first letter of the part"
+-- 10, 01: hollow. S11: "a monitor, the body of a star, or an operand of an `@`, left or right, is nullable"
 unfoldable pub nullables : Exp → List ℕ
 nullables m = each (m ∷ parts m) (λ p. only (nullable p) (head (letters p)))
 
--- 11, 01: open end. "a letter ending a thread can also be followed inside it"
+-- 11, 01: open end. S12: "after a last letter of a thread some letter comes next inside the thread"
 unfoldable pub openEnds : Exp → List ℕ
 openEnds m = each (threads m) (λ f. numbers (λ l. last (l .number) f && not (null (follow (l .number) f))) (letters f))
 
--- 12, 01: fork. "two letters side by side whose wire literals one word meets"
+-- 12, 01: fork. S13: "two letters are side by side, and some word meets the wire literals of both. Both are at fault."
 unfoldable pub ambiguous : Exp → List ℕ
 ambiguous m = each (groups m) (λ g. numbers (λ x. any (λ y. not (eqb (x .number) (y .number)) && together x y) g) g)
 
@@ -86,10 +87,10 @@ abbrev pub firstOf : ℕ → List ℕ → Shape → Shape
 firstOf rule [] rest = rest
 firstOf rule (n ∷ ns) rest = turned-away rule (least n ns)
 
--- "monitor by monitor 9 to 12 in order, with .. lowest letter at fault"
+-- X10: "each by 9, 10, 11 and 12 in this order. The first rule broken is told, with .. the lowest letter at fault by that rule"
 unfoldable pub shape : Exp → Shape
 shape m = firstOf impossible (unsatisfiable m) (firstOf hollow (nullables m) (firstOf openEnd (openEnds m) (firstOf fork (ambiguous m) accepted)))
 
--- A text's monitors: numbered in reading order, none turned away.
+-- A text's monitors: numbered (S2), none turned away.
 abbrev pub AllRead : List Exp → Type 0
 AllRead ms = (m : Exp) → m ∈ ms → Ordered 0 m × (shape m ≡ accepted)

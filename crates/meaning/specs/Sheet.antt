@@ -1,4 +1,4 @@
--- The printed sheet (01, "The printed sheet"), as a list of bytes from the bytes of the rule text and of the trace. Assumes nothing.
+-- The printed sheet (docs/REFERENCE.md, P1 to P8), as a list of bytes from the bytes of the rule text and of the trace. Assumes nothing.
 use mathlib.Core.Bool.{cond}
 use mathlib.Core.List.{List, [], _∷_, _++_, map}
 use Prim.Native.Nat.{ℕ, zero, suc, _+_, _/_, _%_, _^_, _*_}
@@ -16,7 +16,7 @@ use Rattle.trace.specs.Whole.{Lent, lend, numberOrZero}
 
 -- ---- numbers
 
--- a digit; from ten on a lower-case letter
+-- a digit; P2: "a to f in small letters"
 abbrev digit : ℕ → ℕ
 digit d = cond (ltb d 10) (48 + d) (87 + d)
 
@@ -25,17 +25,18 @@ unfoldable pub digitsIn : ℕ → ℕ → ℕ → List ℕ → List ℕ
 digitsIn base zero n ds = digit (n % base) ∷ ds
 digitsIn base (suc k) n ds = elim (n / base) [ zero ↦ digit (n % base) ∷ ds | suc m ↦ digitsIn base k (n / base) (digit (n % base) ∷ ds) ]
 
+-- P2: "Numbers are decimal, without zeros in front."
 unfoldable pub decimal : ℕ → List ℕ
 decimal n = digitsIn 10 n n []
 
--- so many hexadecimal digits
+-- so many hexadecimal digits; P2: "A word alone is printed as 16 hexadecimal digits, with its zeros"
 unfoldable pub hexadecimal : ℕ → ℕ → List ℕ
 hexadecimal zero w = []
 hexadecimal (suc k) w = digit (w / 2 ^ (4 * k) % 16) ∷ hexadecimal k w
 
 -- ---- lines
 
--- "Each line closes with a line feed, one space parts its fields."
+-- P2: "One space stands between the fields of a line, none before the first or behind the last, and every line ends with a line feed (byte 10)"
 unfoldable pub line : List (List ℕ) → List ℕ
 line [] = 10 ∷ []
 line (f ∷ fs) = f ++ more fs
@@ -44,46 +45,48 @@ line (f ∷ fs) = f ++ more fs
     more [] = 10 ∷ []
     more (g ∷ gs) = 32 ∷ (g ++ more gs)
 
--- "A refusal prints `refused` with number and place"
+-- P5: "A refusal prints `refused`, its number and its place"
 unfoldable pub refusalLine : (number : ℕ) → (place : List ℕ) → List ℕ
 refusalLine number place = line (bytes "refused" ∷ decimal number ∷ map decimal place)
 
--- a byte; or monitor and letter
+-- P5: "one field for a byte (1 to 7), two for monitor and letter (8 to 12)"
 abbrev pub placeNumbers : Place → List ℕ
 placeNumbers (byte n) = n ∷ []
 placeNumbers (letterOf m l) = m ∷ l ∷ []
 
+-- P3: "`rows R letters L`, with the counts of S3"
 unfoldable pub countsLine : Counts → List ℕ
 countsLine c = line (bytes "rows" ∷ decimal (c .rows) ∷ bytes "letters" ∷ decimal (c .letters) ∷ [])
 
--- the first line: both counts, or the refusal
+-- P3: the first line, both counts or the refusal
 abbrev pub firstLine : Answer Counts → List ℕ
 firstLine (value c) = countsLine c
 firstLine (refused number place) = refusalLine number (placeNumbers place)
 
--- "per tick its number, the word in 16 lower-case hexadecimal digits, and `ok` or `bad M`"
+-- P4: "`T W ok`, its number and word. One that is bad prints `T W bad M` with the monitor"
 abbrev tickLine : ℕ → ℕ → List (List ℕ) → List ℕ
 tickLine t w verdict = line (decimal t ∷ hexadecimal 16 w ∷ verdict)
 
--- "else `clean N` with N ticks last"
+-- P7: "the last line is `clean N`, N being their number"
 unfoldable pub cleanLine : ℕ → List ℕ
 cleanLine n = line (bytes "clean" ∷ decimal n ∷ [])
 
 -- ---- the ticks
 
--- what tick t prints for the word w, and the lines behind it where it is ok
+-- what tick t prints for the word w, and the lines behind it where it is ok; P5: "the tick that the record or word would have had (13 to 17)"
 abbrev onReply : Reply → ℕ → ℕ → List ℕ → List ℕ
 onReply ok t w rest = tickLine t w (bytes "ok" ∷ []) ++ rest
 onReply (bad m) t w rest = tickLine t w (bytes "bad" ∷ decimal m ∷ [])
 onReply (calls.refused number place) t w rest = refusalLine number (t ∷ [])
 
--- what was read at tick t, and the lines for a word of so many bytes
+-- what was read at tick t, and the lines for a word of so many bytes; P6: "Each record is read before its tick is judged."
 abbrev onItem : trace.Answer Item → ℕ → (ℕ → ℕ → List ℕ) → List ℕ
 onItem (trace.value (word w n)) t next = next w n
 onItem (trace.value end) t next = cleanLine t
 onItem (trace.refused number place) t next = refusalLine number (t ∷ [])
 
--- the lines from tick t on, where these bytes are left; a record has at least one byte
+-- the lines from tick t on, where these bytes are left; a record has at least one byte (R1). P4: "the trace is read record by record, and the watch is called with
+-- each word".
 unfoldable pub tickLines : ℕ → Opened → State History → ℕ → List ℕ → ℕ → List ℕ
 tickLines zero o s t rest before = cleanLine t
 tickLines (suc k) o s t rest before =
@@ -92,17 +95,19 @@ tickLines (suc k) o s t rest before =
     let more = tickLines k o (after (onward (o .monitors)) s w r) (suc t) (drop n rest) w in
     onReply r t w more)
 
--- the lines behind the first: "for a refused text that line is the whole sheet"
+-- the lines behind the first; P3: "If the text is refused its refusal is the only line, whatever the trace holds."
 abbrev linesBehind : Answer Opened → List ℕ → List ℕ
 linesBehind (value o) records = tickLines (length records) o (opening (start (o .initial))) 0 records 0
 linesBehind (refused number place) records = []
 
+-- P1: the sheet of a text and a trace
 unfoldable pub sheet : List ℕ → List ℕ → List ℕ
 sheet text records = firstLine (countsOf (openText text)) ++ linesBehind (openText text) records
 
--- The C program hands over a byte range for the printed sheet. "It gets the sheet's length, or 0 and an untouched range if that is too short." What is beyond the sheet is untouched too.
+-- P8: "If the range is shorter than the sheet it returns 0 and leaves the range as it was. In a longer one the bytes behind the sheet stay as they were".
 unfoldable pub lentSheet : List ℕ → List ℕ → List ℕ → Lent
 lentSheet text records range = lend (sheet text records) range
 
+-- P8: "returns the sheet's length"
 abbrev pub lentLength : List ℕ → List ℕ → List ℕ → ℕ
 lentLength text records range = numberOrZero (lentSheet text records range .answer)

@@ -1,15 +1,16 @@
--- The table of rows, and the walk over it: "being asked and being left send each other on through the rows".
+-- The table of rows (docs/REFERENCE.md, S3), which specs/RowWalk walks over.
 use mathlib.Core.List.{List, [], _∷_, _++_}
 use mathlib.Core.Path.{_≡_}
 use Prim.Native.Nat.{ℕ, suc, _+_}
 use lib.ListN.{getD}
 use Rattle.meaning.specs.Expression.{Letter, Exp, letter, seq, alt, star, pipe, rows}
 
+-- S3: "each letter and each operator (`,` `||` `*` `@`)"
 pub data Kind : Type 0 where
   is-letter : Letter → Kind
   is-seq is-alt is-star is-pipe : Kind
 
--- "The table has one row for each letter and each operator": its operands' rows, and the row that it is an operand of.
+-- S3: "The table has a row for each letter and each operator". A row has its operands' rows, and the row that it is an operand of.
 pub record Row : Type 0 where
   pub kind : Kind
   pub left : ℕ

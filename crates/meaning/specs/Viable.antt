@@ -1,5 +1,6 @@
--- What the tokens of a text can still become: whether others behind them make them a text of specs/Grammar. proofs/Viable shows that reading refuses a text at the first
--- token with which they cannot, names and limits apart. `Spare` says what that means, and the proof that it says no less and no more. Assumes nothing.
+-- Which token is refused (docs/REFERENCE.md, X2 and X3): whether the tokens of a text can still become one of specs/Grammar, by others behind them. proofs/Viable shows that
+-- reading refuses a text at the first token with which they cannot, names and limits apart. `Spare` says what that means; the proof shows that it says no less and no more.
+-- Assumes nothing.
 use mathlib.Core.Path.{_≡_}
 use mathlib.Core.Bool.{false}
 use mathlib.Core.List.{List, [], _∷_, _++_}
@@ -44,7 +45,7 @@ HasDefine ns P = (s : List ℕ) × (ds : List Literal) × Stands ns s (aDefine d
 abbrev pub HasLiteral : Names → Context → List Literal → Type 0
 HasLiteral ns c ls = HasInput ns ⊎ (HasStore ns × (tooMany c ls 1 ≡ false)) ⊎ HasDefine ns (λ ds. tooMany c ls (storeTests ds) ≡ false)
 
--- So many names more may be declared: "128 names".
+-- so many names more may be declared (N6)
 abbrev pub Room : ℕ → Names → Type 0
 Room more ns = length (ns .declared) + more ≤ 128
 
@@ -89,7 +90,7 @@ Spare ns (writeStore o ls ws) = HasStore ns
 Spare ns (writeValue o ls ws number width) = Unit {0}
 Spare ns (writeMore o ls ws) = Unit {0}
 Spare ns (operandMore o e starred) = Unit {0}
--- a production to name: "32 monitors"
+-- a production to name, and room for one more in the list (N6)
 Spare ns (monitorName ms) = HasProduction ns × (length ms < 32)
 Spare ns (monitorMore ms) = Unit {0}
 Spare ns (textEnd ms) = Unit {0}
@@ -121,6 +122,7 @@ pub record Ample (ns : Names) (x : Expect) : Type 0 where
 
 -- ---- the token that is refused
 
+-- a step more, where the one before was no refusal and not the end
 abbrev pub feedOn : Step → (Names → Expect → Step) → Step
 feedOn (go ns x) next = next ns x
 feedOn (finished p) next = finished p

@@ -15,7 +15,7 @@ use Rattle.meaning.specs.ShapeTests.{agree, AllSized}
 use Rattle.meaning.specs.Fit.{Tick, meets, write}
 use Rattle.meaning.specs.Positions as machine
 use Rattle.meaning.specs.Table.{Table}
-use Rattle.meaning.specs.Calls.{replies}
+use Rattle.meaning.specs.Calls.{stateFrom, replies, standing as stood}
 use Rattle.meaning.specs.Opening.{Opened, openText}
 use Rattle.meaning.proofs.ListLaws.{here, there, no-∈, cons-∈, map-∈, ∈-map}
 use Rattle.meaning.proofs.Step.{Solid}
@@ -24,14 +24,14 @@ use Rattle.meaning.proofs.Walk.{a-row}
 use Rattle.meaning.proofs.Shifted.{shiftLetter, letters-renumbered}
 use Rattle.meaning.proofs.Accept.{accept-solid}
 use Rattle.meaning.proofs.Numbering.{renumbered-size, renumbered-rows}
-use Rattle.meaning.proofs.Openings.{machine-right, all-read}
+use Rattle.meaning.proofs.Openings.{machine-right, machine-stands, all-read}
 use Rattle.rules.specs.declared.Watch.{Watch}
 use Rattle.rules.specs.Cells.{Link}
 use Rattle.rules.specs.Laying.{slotWord, slotNumber, slotsOf}
 use Rattle.rules.specs.Watches.{watchOf}
 use Rattle.monitor.specs.Letters.{Given, letterMet, writeLetter}
 use Rattle.monitor.specs.Ticks.{steps, stepWithin}
-use Rattle.monitor.specs.Calls.{Moving, givenOf, layoutOf, stateOf, repliesOf}
+use Rattle.monitor.specs.Calls.{Moving, givenOf, layoutOf, judge, onward, stateOf, withState, repliesOf, watchAfterAll, Held}
 use Rattle.monitor.proofs.Padded.{padded}
 use Rattle.monitor.proofs.Readable.{Readable, accepted-readable}
 use Rattle.monitor.proofs.LetterTests.{LetterGiven, letter-met, letter-writes}
@@ -41,7 +41,7 @@ use Rattle.monitor.proofs.MemoryLaws.{asks-right, leaves-right}
 use Rattle.monitor.proofs.Monitors.{AllStanding, all-go}
 use Rattle.monitor.proofs.Moves.{AllWriteAs, MarksAll}
 use Rattle.monitor.proofs.Watching.{Steps, steps-right}
-use Rattle.monitor.proofs.Replies.{Like, machine-replies}
+use Rattle.monitor.proofs.Replies.{Like, watches-by, machine-replies, machine-states}
 use Rattle.monitor.proofs.Starts.{starts}
 use Rattle.monitor.proofs.Numbered.{programOf}
 use Rattle.monitor.proofs.LetterRows.{HeldAll}
@@ -212,14 +212,38 @@ module _ (text : List ℕ) (o : Opened) (e : openText text ≡ value o) where
       subst (λ (z : List ℕ). Steps (o .monitors) (machine.seen m w) (m .stores) padded (length (o .initial)) (machine.ticked (o .monitors) m w) (stepWithin (givenOf v z w) (layoutOf v) (s .marks)))
       (sym (l .values)) (step-from (m .stores) (l .long) w (s .marks) (m .positions) (l .marks))
 
+  -- at its opening it is like the machine
+  start-like : Like (o .monitors) padded (length (o .initial)) (stateOf v .inner) (machine.opened (o .monitors) (o .initial))
+  unfolding v watchOf
+  start-like = record {
+    marks = starts (length (o .monitors)) (c .few-monitors) (o .monitors) refl (let a = c .few-letters in let b = c .letters-are in omega (arith, a, b));
+    values = refl;
+    long = refl;
+  }
+
+  few-letters : v .letters ≤ 256
+  unfolding v
+  few-letters = let a = c .few-letters in let b = Program.letters-counted o c in omega (arith, a, b)
+
   pub calls-answered : (ws : List ℕ) → repliesOf (watchOf (value o)) ws ≡ replies (o .monitors) (o .initial) (o .wires) ws
   unfolding v watchOf
   calls-answered ws =
-      machine-replies (o .monitors) padded (length (o .initial)) v (Program.monitors-counted o c) (c .few-monitors)
-      (let a = c .few-letters in let b = Program.letters-counted o c in omega (arith, a, b)) step-right (stateOf v) (machine.opened (o .monitors) (o .initial))
-      (record {
-        marks = starts (length (o .monitors)) (c .few-monitors) (o .monitors) refl (let a = c .few-letters in let b = c .letters-are in omega (arith, a, b));
-        values = refl;
-        long = refl;
-      }) ws
+      machine-replies (o .monitors) padded (length (o .initial)) v (Program.monitors-counted o c) (c .few-monitors) few-letters step-right (stateOf v)
+      (machine.opened (o .monitors) (o .initial)) start-like ws
       ∙ machine-right text o e ws
+
+  -- After any list of calls the watch has the tick count, the stop and the store values that the meaning fixes, zeros behind these; all else is as it was opened.
+  pub watch-held : (ws : List ℕ) → Held (watchOf (value o)) (watchAfterAll (watchOf (value o)) ws) (stood (o .monitors) (o .initial) (o .wires) ws)
+  unfolding v watchOf
+  watch-held ws =
+      let s = stateFrom (judge v) (onward v) (v .wires) (stateOf v) ws in
+      let (l, n, b) = machine-states (o .monitors) padded (length (o .initial)) v (Program.monitors-counted o c) (c .few-monitors) few-letters step-right (stateOf v)
+      (machine.opened (o .monitors) (o .initial)) start-like ws in
+      let (t, k, q) = machine-stands text o e ws in
+      let w = watches-by v (stateOf v) ws in
+      record {
+        tables = w ∙ ap (withState v) (sym (ap stateOf w));
+        ticks = ap (λ (u : Watch). u .ticks) w ∙ n ∙ k;
+        stopped = ap (λ (u : Watch). u .stopped) w ∙ b ∙ q;
+        values = ap (λ (u : Watch). u .values) w ∙ l .values ∙ ap padded (sym (t .1));
+      }

@@ -249,7 +249,7 @@ module _ (g : Given) (i : ℕ) (x : Letter) (σ : List ℕ) (given : LetterGiven
       let e = ap (λ os. getD os j none) (four tests writes) in
       (given .links j l ∙ ap slotWord e, given .numbers j l ∙ ap slotNumber e)
 
-  -- "word t and the store values before t meet all its literals"
+  -- F6: "all its literals hold at t"
   pub letter-met : g .values ≡ padded σ → letterMet g i ≡ meets x (record { word = g .word; stores = σ })
   unfolding letterMet meets
   letter-met e =
@@ -265,7 +265,7 @@ module _ (g : Given) (i : ℕ) (x : Letter) (σ : List ℕ) (given : LetterGiven
       let short : length tests ≤ 2 = omega (arith, tests-length [] (x .literals), inside .few-tests) in
       ap₂ (λ (a b : Bool). a && b) masks (ap₂ (λ (a b : Bool). a && b) test₀ test₁ ∙ sym (two-hold t tests short)) ∙ sym (meets-parts t [] (x .literals))
 
-  -- "then the later write": over any store values that are as many
+  -- F21: "within a letter the one further right": over any store values that are as many
   pub letter-writes : (t : Tick) → g .word ≡ t .word → (ρ : List ℕ) → length ρ ≡ length σ → writeLetter g i (padded ρ) ≡ padded (carry (write t) ρ (x .writes))
   unfolding writeLetter
   letter-writes t e ρ l =

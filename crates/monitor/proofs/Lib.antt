@@ -1,24 +1,47 @@
 -- The laws behind `tick`.
+-- what it says that a tick's numbers are those of a table's rows and of its letters
 mod Coded
+-- what may be remembered during a tick, and when an answer and the marks with it are right
 mod Memory
+-- the walk with a memory answers as the walk without, and marks just the letters of the way taken
 mod MemoryLaws
+-- the walk's functions, one law for each way out of each
 mod WalkSteps
+-- positions one after the other, of one monitor and of all: the marks are the letters of all ways, or the first monitor stuck is told
 mod Going
+-- the marks a good tick leaves are the positions kept, and the store values those that the letters met write
 mod Moves
+-- each monitor goes over its rows as its positions do in the meaning
 mod Monitors
+-- one step of a watch is one step of the meaning's machine: verdict, marks and store values
 mod Watching
+-- a list of calls on a watch is one on what moves in it, with 16, 17 and 15 decided as in the meaning
 mod Replies
+-- a letter's test and writes, by the branches of the code
 mod LetterSteps
+-- a tick, by the loops and branches of the code
 pub mod TickSteps
+-- a list that is stored in an array stands there
 mod Stored
+-- reading gives at most 32 monitors
 mod FewMonitors
+-- a program's monitors with letters numbered over all of them have the same watch
 mod Numbered
+-- the words of a watch's rows are those of the rows of meaning's table
 mod RowWords
+-- each letter's numbers stand at the letter's own index
 mod LetterIndex
+-- a watch's places are the rows of its letters
 mod LetterRows
+-- what stands in the watch of an accepted text, its table word for word (`table-right`)
 pub mod Program
+-- a watch's store values are the meaning's with zeros behind them
 mod Padded
+-- the literals, writes and first store values of an accepted text fit the watch
 mod Readable
+-- a letter's numbers test and write what the letter means
 mod LetterTests
+-- the marks of a newly opened watch are the monitors' starts
 mod Starts
+-- every list of calls on the watch of an accepted text gets the replies that its meaning fixes (`calls-answered`)
 pub mod Calls

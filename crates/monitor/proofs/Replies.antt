@@ -10,12 +10,12 @@ use lib.ListN.{length}
 use Rattle.meaning.specs.Expression.{Exp}
 use Rattle.meaning.specs.Fit.{Tick, ok, bad}
 use Rattle.meaning.specs.Positions as machine
-use Rattle.meaning.specs.Calls.{State, reply, after, repliesFrom}
+use Rattle.meaning.specs.Calls.{State, reply, after, repliesFrom, stateFrom}
 use Rattle.meaning.proofs.ListLaws.{clash}
-use Rattle.meaning.proofs.Calls.{same-replies}
+use Rattle.meaning.proofs.Calls.{Alike, same-replies, same-states}
 use Rattle.rules.specs.declared.Watch.{Watch}
 use Rattle.monitor.specs.Ticks.{Layout, layout, within, Move, stepWithin}
-use Rattle.monitor.specs.Calls.{Moving, givenOf, layoutOf, stepFrom, judge, onward, withState, replyOf, watchAfter, repliesOf}
+use Rattle.monitor.specs.Calls.{Moving, givenOf, layoutOf, stepFrom, judge, onward, withState, replyOf, watchAfter, repliesOf, watchAfterAll}
 use Rattle.monitor.proofs.Moves.{MarksAll}
 use Rattle.monitor.proofs.Watching.{Steps}
 
@@ -26,6 +26,11 @@ unfolding repliesOf repliesFrom replyOf watchAfter
 replies-by v s [] = refl
 replies-by v s (w ∷ ws) =
     ap (λ rs. reply (judge v) (v .wires) s w ∷ rs) (replies-by v (after (onward v) s w (reply (judge v) (v .wires) s w)) ws)
+
+pub watches-by : (v : Watch) (s : State Moving) (ws : List ℕ) → watchAfterAll (withState v s) ws ≡ withState v (stateFrom (judge v) (onward v) (v .wires) s ws)
+unfolding watchAfterAll stateFrom replyOf watchAfter
+watches-by v s [] = refl
+watches-by v s (w ∷ ws) = watches-by v (after (onward v) s w (reply (judge v) (v .wires) s w)) ws
 
 -- ---- calls on a watch whose steps are those of the meaning's machine
 
@@ -71,8 +76,13 @@ module _ (ms : List Exp) (pad : List ℕ → List ℕ) (stores : ℕ) (v : Watch
       by (machine.fine nss) h e = let (a, b, c, d) = h .goes nss refl in record { marks = b; values = c; long = d }
       by (machine.wrong j) h e = clash (cc e)
 
-  pub machine-replies : (s : State Moving) (m : machine.Watch) → Like ms pad stores (s .inner) m → (ws : List ℕ)
-      → repliesOf (withState v s) ws ≡ repliesFrom (machine.answer ms) (machine.moved ms) (v .wires) (record { inner = m; oks = s .oks; stopped = s .stopped }) ws
-  machine-replies s m l ws =
-      replies-by v s ws
-      ∙ same-replies (judge v) (onward v) (machine.answer ms) (machine.moved ms) (Like ms pad stores) same-judgment same-move (v .wires) ws (s .inner) m (s .oks) (s .stopped) l
+  module _ (s : State Moving) (m : machine.Watch) (l : Like ms pad stores (s .inner) m) (ws : List ℕ) where
+    abbrev other : State machine.Watch
+    other = record { inner = m; oks = s .oks; stopped = s .stopped }
+
+    pub machine-replies : repliesOf (withState v s) ws ≡ repliesFrom (machine.answer ms) (machine.moved ms) (v .wires) other ws
+    machine-replies =
+        replies-by v s ws ∙ same-replies (judge v) (onward v) (machine.answer ms) (machine.moved ms) (Like ms pad stores) same-judgment same-move (v .wires) ws s other (l, refl, refl)
+
+    pub machine-states : Alike (Like ms pad stores) (stateFrom (judge v) (onward v) (v .wires) s ws) (stateFrom (machine.answer ms) (machine.moved ms) (v .wires) other ws)
+    machine-states = same-states (judge v) (onward v) (machine.answer ms) (machine.moved ms) (Like ms pad stores) same-judgment same-move (v .wires) ws s other (l, refl, refl)

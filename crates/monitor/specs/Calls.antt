@@ -1,14 +1,18 @@
--- A tick call on a watch, and a list of them: any watch, any words. Assumes nothing.
+-- A tick call on a watch, and a list of them (docs/REFERENCE.md, W2 to W10): any watch, any words. Assumes nothing.
 use mathlib.Core.Bool.{Bool, cond}
 use mathlib.Core.List.{List, [], _∷_}
+use mathlib.Core.Path.{_≡_}
 use Prim.Native.Nat.{ℕ}
-use Rattle.meaning.specs.Fit.{Verdict}
+use lib.ListN.{replicate}
+use lib.Seq.{sets}
+use Rattle.refusals.specs.Numbers.{stray, stopped, full}
+use Rattle.meaning.specs.Fit.{Verdict, History}
 use Rattle.meaning.specs.Calls.{Reply, isFull, isStray, State, reply, after}
 use Rattle.rules.specs.declared.Watch.{Watch}
 use Rattle.monitor.specs.Letters.{Given, given}
 use Rattle.monitor.specs.Ticks.{Layout, layout, Move, stepOf, verdictOf}
 
--- What moves from tick to tick: the marks and the store values.
+-- W7: what moves from tick to tick, the marks and the store values.
 pub record Moving : Type 0 where
   pub marks : List ℕ
   pub values : List ℕ
@@ -56,18 +60,30 @@ withState v s =
       stopped = s .stopped;
     }
 
--- A call's reply, and the watch after it: 16, 17, 15 and the verdict as `meaning` has them, by what the watch makes of the word.
+-- W2: a call's reply, and the watch after it. X11: 16, 17, 15 and then the verdict, as `meaning` has them, by what the watch makes of the word.
 unfoldable pub replyOf : Watch → ℕ → Reply
 replyOf v w = reply (judge v) (v .wires) (stateOf v) w
 
 unfoldable pub watchAfter : Watch → ℕ → Watch
 watchAfter v w = withState v (after (onward v) (stateOf v) w (replyOf v w))
 
--- 01's number of a refused call, or 0
+-- the number of a refused call (W3 to W5, in the order of X11), or 0
 abbrev pub refusedBy : (stopped : Bool) → (oks wires word : ℕ) → ℕ
-refusedBy b n wires w = cond b 16 (cond (isFull n) 17 (cond (isStray wires w) 15 0))
+refusedBy b n wires w = cond b stopped (cond (isFull n) full (cond (isStray wires w) stray 0))
 
--- the replies to a list of calls: "Each call gets the watch that the call before it returned or left"
+-- W10: "each other one the watch that the call before it left"
 unfoldable pub repliesOf : Watch → List ℕ → List Reply
 repliesOf v [] = []
 repliesOf v (w ∷ ws) = replyOf v w ∷ repliesOf (watchAfter v w) ws
+
+-- and the watch after them
+unfoldable pub watchAfterAll : Watch → List ℕ → Watch
+watchAfterAll v [] = v
+watchAfterAll v (w ∷ ws) = watchAfterAll (watchAfter v w) ws
+
+-- W1, W7 to W9: what a watch u, opened as v, holds where the meaning stands at h: tick count, stop and store values, zeros behind them; all else is as in v
+pub record Held (v u : Watch) (h : State History) : Type 0 where
+  pub tables : u ≡ withState v (stateOf u)
+  pub ticks : u .ticks ≡ h .oks
+  pub stopped : u .stopped ≡ h .stopped
+  pub values : u .values ≡ sets (replicate 16 0) 0 (h .inner .stores)

@@ -1,4 +1,5 @@
--- A letter's numbers and a tick's: whether the letter is met, and what it writes. Over any numbers; nothing here is trusted to be within its list. Assumes nothing.
+-- A letter's numbers and a tick's: whether the letter is met, and what it writes (docs/REFERENCE.md, F3, F6, F20 and F21). Over any numbers; nothing here is trusted to be
+-- within its list. Assumes nothing.
 use mathlib.Core.Bool.{Bool, cond, _&&_, _||_}
 use mathlib.Core.List.{List}
 use Prim.Native.Nat.{ℕ, _+_, _*_, _/_, _%_, _^_}
@@ -21,22 +22,22 @@ pub record Given : Type 0 where
 abbrev pub given : (table look want links numbers values : List ℕ) → (word : ℕ) → Given
 given t a b c d v w = record { table = t; look = a; want = b; links = c; numbers = d; values = v; word = w }
 
--- A link's value: its number (part 1 is 2), or the wires from part 2 on that its number masks. "Both tests and written wires are those of tick t."
+-- A link's value: its number (part 1 is 2), or the wires from part 2 on that its number masks (N4), F20: "in word t".
 abbrev pub linkValue : (link number word : ℕ) → ℕ
 linkValue x v w = cond (eqb (part1 x) 2) v (bitAnd (w / 2 ^ (part2 x % 64)) v)
 
--- a store test: there is none, or the store has the link's value
+-- F3: a store test; there is none, or the store has the link's value
 abbrev pub testMet : Given → (slot : ℕ) → Bool
 testMet g i = eqb (getD (g .links) i 0) 0 || eqb (getD (g .values) (part0 (getD (g .links) i 0)) 0) (linkValue (getD (g .links) i 0) (getD (g .numbers) i 0) (g .word))
 
--- "word t and the store values before t meet all its literals": the wires looked at have the values wanted, and both tests are met
+-- F6: "all its literals hold at t": the wires looked at have the values wanted, and both tests are met
 unfoldable pub letterMet : Given → (letter : ℕ) → Bool
 letterMet g l = passes (getD (g .look) l 0) (getD (g .want) l 0) (g .word) && (testMet g (4 * l) && testMet g (4 * l + 1))
 
--- a write, or none
+-- F20: a write, or none
 abbrev pub writeSlot : Given → (slot : ℕ) → List ℕ → List ℕ
 writeSlot g i σ = cond (eqb (getD (g .links) i 0) 0) σ (set σ (part0 (getD (g .links) i 0)) (linkValue (getD (g .links) i 0) (getD (g .numbers) i 0) (g .word)))
 
--- the writes of a letter, "then the later write"
+-- the writes of a letter; F21: "within a letter the one further right"
 unfoldable pub writeLetter : Given → (letter : ℕ) → List ℕ → List ℕ
 writeLetter g l σ = writeSlot g (4 * l + 3) (writeSlot g (4 * l + 2) σ)

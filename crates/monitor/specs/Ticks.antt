@@ -1,4 +1,4 @@
--- A tick, from a watch and a word to the answer and the new watch; over any watch. Assumes nothing.
+-- A tick, from a watch and a word to the answer and the new watch (docs/REFERENCE.md, W6 to W8, F19 and F21); over any watch. Assumes nothing.
 use mathlib.Core.Bool.{true, cond}
 use mathlib.Core.List.{List}
 use Prim.Native.Nat.{ℕ, zero, suc, _+_, _-_, min}
@@ -70,7 +70,7 @@ monitorsGo g y marks (suc n) i M = reachedBy i (monitorGoes g y marks i M) (moni
 
 -- ---- what a good tick leaves
 
--- "the marks after a tick are a new set": of the first n letters those marked in the memory, and no monitor is at its start
+-- W7: "the set of its letters met at the last tick": of the first n letters those marked in the memory, and no monitor is at its start
 abbrev pub marksAfter : (n : ℕ) → (memory : List ℕ) → List ℕ
 marksAfter n M = sets (replicate 288 0) 0 (take n (drop 2048 M))
 
@@ -78,14 +78,14 @@ marksAfter n M = sets (replicate 288 0) 0 (take n (drop 2048 M))
 abbrev pub writeIf : Given → (marks : List ℕ) → (l : ℕ) → List ℕ → List ℕ
 writeIf g marks l σ = cond (eqb (getD marks l 0) 0) σ (writeLetter g l σ)
 
--- "of two writes to one store the later monitor's stands, then the later letter's": n letters from l on
+-- F21: "the later monitor's stands; within a monitor that of the letter with the higher number": n letters from l on
 unfoldable pub writeMarked : Given → (marks : List ℕ) → (n l : ℕ) → List ℕ → List ℕ
 writeMarked g marks zero l σ = σ
 writeMarked g marks (suc n) l σ = writeMarked g marks n (suc l) (writeIf g marks l σ)
 
 -- ---- one tick
 
--- the first monitor that does not go on, or the number of monitors; the marks and store values after the tick, or as before it where one does not
+-- the first monitor that does not go on, or the number of monitors; the marks and store values after the tick (W7), or as before it where one does not (W8)
 pub record Move : Type 0 where
   pub monitor : ℕ
   pub marks : List ℕ
@@ -109,6 +109,6 @@ stepWithin g y marks = moveBy g y marks (monitorsGo g y marks (y .monitors) 0 em
 abbrev pub stepOf : Given → Layout → (marks : List ℕ) → Move
 stepOf g y marks = stepWithin g (within y) marks
 
--- the verdict of a step: "the lowest monitor that no longer fits"
+-- the verdict of a step; W6: "the lowest monitor that does not fit"
 abbrev pub verdictOf : Layout → Move → Verdict
 verdictOf y a = cond (ltb (a .monitor) (within y .monitors)) (bad (a .monitor)) ok

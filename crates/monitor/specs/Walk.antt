@@ -1,4 +1,4 @@
--- The walk over rows, with answers remembered for one tick: "being asked and being left send each other on through the rows until letters are reached".
+-- The walk over rows, with answers remembered for one tick: asking a row and leaving a row take turns until letters are reached (docs/REFERENCE.md, F6 to F10).
 -- Over any rows: a row that is not there answers no, and so does a walk that is deeper than its count. Assumes nothing.
 use mathlib.Core.Bool.{Bool, true, false, cond}
 use mathlib.Core.List.{List}
@@ -39,11 +39,11 @@ Call = (row : ℕ) → List ℕ → Told
 abbrev pub enterLetter : Given → (letter : ℕ) → List ℕ → Came
 enterLetter g l M = cond (leb 256 l) (came 1 M) (cond (letterMet g l) (came 3 (set M (2048 + l) 1)) (came 1 M))
 
--- of a star, whose body came to a
+-- F9: of a star, whose body came to a
 abbrev pub orPassCode : (a : ℕ) → ℕ
 orPassCode a = cond (eqb a 3) 3 2
 
--- of `||`, whose operands came to a, which is not 3, and to b
+-- F8: of `||`, whose operands came to a, which is not 3, and to b
 abbrev pub orEnterCode : (a b : ℕ) → ℕ
 orEnterCode a b = cond (eqb b 3) 3 (cond (eqb a 2) 2 b)
 
@@ -80,7 +80,7 @@ askFrom leave r a = cond (eqb (a .code) 3) (told true (a .memory)) (cond (eqb (a
 abbrev pub andThen : Told → (List ℕ → Told) → Told
 andThen a f = cond (a .yes) (f (a .memory)) a
 
--- The left operand of an `@`, whose row is u, is left: the `@` is left, and its thread asked. Where either says no, the tick is bad, and marks are of no use.
+-- F10: the left operand of an `@`, whose row is u, is left: the `@` is left, and its thread asked. Where either says no, the tick is bad, and marks are of no use.
 abbrev pub both : (ask leave : Call) → (u thread : ℕ) → List ℕ → Told
 both ask leave u thread M = andThen (leave u M) (ask thread)
 
@@ -94,7 +94,7 @@ leaveTo ask leave x u r M =
     (cond (eqb (part0 x) 4) (cond (eqb (part1 x) r) (both ask leave u (part2 x) M) (told true M))
     (told false M))))
 
--- u is the row above; a monitor's own row points at itself, and is asked again
+-- u is the row above; a monitor's own row points at itself, and is asked again (F13)
 unfoldable pub leaveOn : Given → (ask leave : Call) → (u : ℕ) → Call
 leaveOn g ask leave u r M = cond (eqb u r) (ask r M) (cond (leb 1024 u) (told false M) (leaveTo ask leave (getD (g .table) u 0) u r M))
 

@@ -159,7 +159,7 @@ fn stray(wires: usize, word: u64) -> bool
     word >> wires != 0
 }
 
-// 01's number of a call that is refused, or 0.
+// The number of a call that is refused (W3 to W5), or 0.
 pub fn refused_by(stopped: bool, ticks: u64, wires: usize, word: u64) -> u8
     ensures { λ r. ⌜ r ≡ refusedBy stopped ticks wires word ⌝ }
 {

@@ -1,4 +1,4 @@
--- The token at a position: a sign's number is one of 01's eighteen, and what a kind says of the token. Assumes nothing.
+-- The token at a position: a sign's number is one of eighteen (docs/REFERENCE.md, T6), and what a kind says of the token. Assumes nothing.
 use mathlib.Core.Path.{_≡_, refl, sym, _∙_, ap, subst}
 use mathlib.Core.Bool.{Bool, true, false, cond}
 use mathlib.Core.List.{List, [], _∷_}

@@ -1,5 +1,5 @@
--- What the words that a text is read into stand for: store tests and writes, expressions, and the names that are declared. A cell is known by the index of its
--- first word; index 0 is none. The words below c are in use. Assumes nothing.
+-- What the words that a text is read into stand for: store tests and writes, expressions, and the names that are declared (docs/REFERENCE.md, N1). A cell is
+-- known by the index of its first word; index 0 is none. The words below c are in use. Assumes nothing.
 use mathlib.Core.Bool.{Bool, true, false}
 use mathlib.Core.List.{List, [], _∷_}
 use mathlib.Core.Option.{Option, none, some}
@@ -106,7 +106,7 @@ pub record StoreAt (P : List ℕ) (c h number width : ℕ) : Type 0 where
   pub some : 1 ≤ width
   pub inside : width ≤ 64
 
--- Three store tests are as good as any more, since a letter may have two.
+-- Three store tests are as good as any more, since a letter may have two. N7: "three are no fault before a letter uses it".
 pub record DefineAt (P : List ℕ) (c h : ℕ) (ls : List Literal) : Type 0 where
   pub kind : part0 (at P h) ≡ 2
   pub used : h + 3 < c

@@ -1,4 +1,5 @@
--- The condition of a letter or a define as the code has it, and what the functions that read literals promise. Assumes nothing.
+-- The condition of a letter or a define as the code has it, and what the functions that read literals promise (docs/REFERENCE.md,
+-- G8 to G14). Assumes nothing.
 use mathlib.Core.Bool.{Bool, false, not, _&&_}
 use mathlib.Core.List.{List, [], _++_}
 use mathlib.Core.Path.{_≡_}
@@ -45,7 +46,7 @@ pub record Spent (text : List ℕ) (pos c next d : ℕ) : Type 0 where
 
 -- ---- conditions
 
--- the literals' masks
+-- the literals' masks; S1: "which bits must be 1, which 0"
 pub record MasksAre (q : Condition) (ls : List Literal) : Type 0 where
   pub looks : q .look ≡ look ls
   pub wants : q .want ≡ want ls
@@ -60,7 +61,7 @@ pub record Joined (q : Condition) (l w : ℕ) (a : Bool) (r : Condition) : Type 
   pub tests : r .tests ≡ q .tests
   pub link : r .link ≡ q .link
 
--- the literals' store tests: how many, up to three, and the links of two at most
+-- the literals' store tests (N7): how many, up to three, and the links of two at most
 pub record TestsAre (P : List ℕ) (c tests link : ℕ) (ls : List Literal) : Type 0 where
   pub count : tests ≡ min 3 (storeTests ls)
   pub links : storeTests ls ≤ 2 → Links P c link (testsOn [] ls)

@@ -1,4 +1,5 @@
--- What the functions that read defines and productions promise: a name and the sign behind it, what the name stands for, and its cell. Assumes nothing.
+-- What the functions that read defines and productions promise (docs/REFERENCE.md, G6 and G7): a name and the sign behind it, what the name stands for, and
+-- its cell. Assumes nothing.
 use mathlib.Core.Bool.{false}
 use mathlib.Core.List.{List}
 use mathlib.Core.Path.{_≡_}

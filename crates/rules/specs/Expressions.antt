@@ -1,4 +1,4 @@
--- What the reader of expressions promises. Assumes nothing.
+-- What the reader of expressions promises (docs/REFERENCE.md, G14 to G20). Assumes nothing.
 use mathlib.Core.Bool.{Bool, true, false}
 use mathlib.Core.List.{List, _∷_}
 use mathlib.Core.Path.{_≡_}
@@ -135,7 +135,7 @@ pub record Turned (text P : List ℕ) (pos c : ℕ) (p : Part) (l : Depth) (r : 
   pub long : length Q ≡ length P
   pub turn : TurnIs text P pos c p l r Q
 
--- what is given behind an operand
+-- what is given behind an operand (G16)
 pub record Behind (text P : List ℕ) (pos c : ℕ) (l : Depth) (p : Part) : Type 0 where
   pub room : Room text P pos (c + pending l)
   pub level : (L : Level) × LevelIs P c l L
@@ -143,7 +143,7 @@ pub record Behind (text P : List ℕ) (pos c : ℕ) (l : Depth) (p : Part) : Typ
 
 -- ---- a whole expression
 
--- where a whole expression stands: so many more levels may be opened
+-- where a whole expression stands: so many more levels may be opened (G20)
 pub record Outer (levels : ℕ) (o : Open) : Type 0 where
   pub level : o .level ≡ newLevel
   pub deep : length (o .outer) + levels ≡ 32
@@ -169,7 +169,7 @@ pub record Starring (text P : List ℕ) (pos c : ℕ) (p : Part) : Type 0 where
   pub room : Room text P pos c
   pub part : (e : Exp) × PartIs P c p e
 
--- the operand has its `*`, or there is none
+-- the operand has its `*`, or there is none (G18)
 pub record Starred (text P : List ℕ) (pos c : ℕ) (p : Part) (r : Parsed) (Q : List ℕ) : Type 0 where
   pub extends : Extends P c Q (r .free)
   pub spent : Spent text pos c (r .at) (r .free)

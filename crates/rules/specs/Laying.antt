@@ -1,4 +1,4 @@
--- The rows and letters of an expression as the numbers that a watch's table has. Assumes nothing.
+-- The rows and letters of an expression (docs/REFERENCE.md, S3) as the numbers that a watch's table has. Assumes nothing.
 use mathlib.Core.List.{List, [], _∷_, _++_, map}
 use mathlib.Core.Bool.{cond}
 use mathlib.Core.Option.{Option, none, some}
@@ -94,7 +94,7 @@ abbrev pub behind : List Link → List Link
 behind [] = []
 behind (x ∷ xs) = xs
 
--- a letter's slots: two tests, two writes
+-- a letter's slots: two tests, two writes; N6: "store tests of a letter; writes of a letter | 2; 2"
 abbrev pub slotsOf : Letter → List (Option Link)
 slotsOf x = twoSlots (testsOn [] (x .literals)) ++ twoSlots (writesOn [] (x .writes))
 

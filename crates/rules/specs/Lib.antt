@@ -1,4 +1,5 @@
--- Watches says what `open` answers with, by Laying and Monitors; this is what a reader must believe. The others say what the inner functions have and promise.
+-- To be believed: of Watches `shownOutcome`, what an answer of `open` says, and of Laying `codeOf` and `rowWord`, a row as a word. `watchOf` is believed by name alone: what a
+-- watch answers is said in sheet's Demands. All else says what the inner functions have and promise.
 pub mod Seen
 pub mod Cells
 pub mod Reads

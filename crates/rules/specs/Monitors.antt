@@ -1,10 +1,11 @@
--- The monitors of a text by their productions' cells, and what opening them answers: a refusal by one of the rules 8 to 12, or a table with their rows and
--- letters one behind the other. Assumes nothing.
+-- The monitors of a text by their productions' cells, and what opening them answers (docs/REFERENCE.md, X9, X10 and S3): a refusal by one of the rules 8 to
+-- 12, or a table with their rows and letters one behind the other. Assumes nothing.
 use mathlib.Core.List.{List, [], _∷_, _++_, map}
 use mathlib.Core.Path.{_≡_}
 use Prim.Native.Nat.{ℕ, suc, _+_, _*_, _≤_}
 use lib.ListN.{length, getD}
 use lib.Seq.{sets}
+use Rattle.refusals.specs.Numbers.{longRun}
 use Rattle.meaning.specs.Lists.{each, total}
 use Rattle.meaning.specs.Answers.{Answer, refused, letterOf}
 use Rattle.meaning.specs.Expression.{Exp, letters, size, rows, renumbered}
@@ -37,11 +38,11 @@ SomeMonitors P M count = (c : ℕ) × (ms : List Exp) × MonitorsAre P c M count
 abbrev pub FewLetters : (P M : List ℕ) → (count : ℕ) → Type 0
 FewLetters P M count = (c : ℕ) × (ms : List Exp) × MonitorsAre P c M count ms × (total size ms ≤ 256)
 
--- rule 8: the first monitor that passes the limit, or all of them
+-- rule 8, X9: "the first monitor that takes the letters, counted from monitor 0 on, beyond 256", or all of them
 unfoldable pub FirstLong : (ms : List Exp) → (count r : ℕ) → Type 0
 FirstLong ms count r =
     ((r ≡ count) → (total size ms ≤ 256) × ((o : Answer Opened) → tooLong 0 0 ms o ≡ o))
-    × ((r ≡ count → ⊥) → (o : Answer Opened) → tooLong 0 0 ms o ≡ refused 8 (letterOf r 0))
+    × ((r ≡ count → ⊥) → (o : Answer Opened) → tooLong 0 0 ms o ≡ refused longRun (letterOf r 0))
 
 -- ---- one monitor
 
@@ -72,7 +73,7 @@ pub record Ruled (row index : ℕ) (e : Exp) (T T′ : List ℕ) (L L′ : Lette
   pub stored : Stored row row index e T T′ L L′ r l
   pub answers : Answers f n (judgeOf (kinds T′) (lefts T′) (rights T′) (L′ .look) (L′ .want) row index l)
 
--- rules 9 to 12, and what is stored where they are kept
+-- X10: rules 9 to 12, and what is stored where they are kept
 pub record Opens (row index : ℕ) (m : Exp) (T T′ : List ℕ) (L L′ : LetterLists) (f n r l : ℕ) : Type 0 where
   pub answers : Answers f n (shape (renumbered 0 m))
   pub stored : f ≡ 0 → Stored row row index m T T′ L L′ r l
@@ -105,7 +106,7 @@ withMonitors A i r l ms =
     lists (withRows (A .table) r (codesAll r l ms)) (withLetters (A .letters-of) l (each ms letters)) (sets (A .own) i (startsBy rows r ms))
     (sets (A .firsts) i (startsBy size l ms))
 
--- all monitors are stored, and both counts are told
+-- S3: all monitors are stored, and both counts are told
 pub record AllStored (ms : List Exp) (A A′ : Lists) (r l : ℕ) : Type 0 where
   pub tables : A′ ≡ withMonitors A 0 0 0 ms
   pub row-count : r ≡ total rows ms
@@ -118,10 +119,10 @@ OpenedBy rules ms A A′ r =
     (((o : Answer Opened) → rules o ≡ o) × AllStored ms A A′ (r .rows) (r .letters))
     ((o : Answer Opened) → rules o ≡ refused (r .fault) (letterOf (r .monitor) (r .letter)))
 
--- 9 to 12
+-- X10: 9 to 12
 abbrev pub byShapes : List Exp → Answer Opened → Answer Opened
 byShapes ms o = misshapen 0 (map (renumbered 0) ms) o
 
--- 8 to 12
+-- X9: 8, and then 9 to 12
 abbrev pub byRules : List Exp → Answer Opened → Answer Opened
 byRules ms o = tooLong 0 0 ms (byShapes ms o)

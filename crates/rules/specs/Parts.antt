@@ -1,4 +1,5 @@
--- An expression that was read, as the code has it: its node among the words, and what the rules 8, 9 and 10 ask of it. Assumes nothing.
+-- An expression that was read, as the code has it: its node among the words, and what the rules 8, 9 and 10 ask of it (docs/REFERENCE.md,
+-- X9, S10 and S11). Assumes nothing.
 use mathlib.Core.Bool.{cond}
 use mathlib.Core.List.{List}
 use mathlib.Core.Logic.{_⊎_}

@@ -1,4 +1,4 @@
--- A name of a kind that is wanted, among those that are declared. Assumes nothing.
+-- A name of a kind that is wanted, among those that are declared (docs/REFERENCE.md, X4). Assumes nothing.
 use mathlib.Core.List.{List}
 use mathlib.Core.Option.{some}
 use mathlib.Core.Path.{_≡_}
@@ -14,14 +14,14 @@ use Rattle.rules.specs.Seen.{seen}
 use Rattle.rules.specs.Cells.{Means, Cells}
 use Rattle.rules.specs.Reads.{Unless}
 
--- the number of a name's kind
+-- the number of a name's kind (N1)
 abbrev pub kindNumber : Meaning → ℕ
 kindNumber (anInput lo width) = 0
 kindNumber (aStore n width) = 1
 kindNumber (aDefine ls) = 2
 kindNumber (aProduction e) = 3
 
--- what names of other kinds lead to
+-- what names of other kinds lead to; X4: "a name of another kind, and one that is not declared, is refusal 4, unknown"
 pub record Only (kind : ℕ) (t : Placed) (i s : ℕ → ℕ → Step) (d : List Literal → Step) (p : Exp → Step) : Type 0 where
   pub inputs : (kind ≡ 0 → ⊥) → i ≡ noPair t
   pub stores : (kind ≡ 1 → ⊥) → s ≡ noPair t

@@ -1,4 +1,5 @@
--- What the reader's answers say of reading: `fault` is 0, and reading goes on from a position; or it is 01's number, and the place is given. Assumes nothing.
+-- What the reader's answers say of reading: `fault` is 0, and reading goes on from a position; or it is the refusal's number (docs/REFERENCE.md, X1), and the
+-- place is given. Assumes nothing.
 use mathlib.Core.List.{List}
 use mathlib.Core.Path.{_≡_}
 use mathlib.Core.Logic.{_⊎_}
@@ -6,6 +7,7 @@ use Prim.Native.Nat.{ℕ, _<_, _≤_}
 use lib.ListN.{length}
 use Rattle.lexer.specs.Tokens as token
 use Rattle.lexer.specs.Tokens.{Token, Placed, tokenAt, tokensAt}
+use Rattle.refusals.specs.Numbers.{oversize}
 use Rattle.meaning.specs.Answers.{Answer, refused, byte}
 use Rattle.meaning.specs.Reading.{Expect, Step, fault, onNumber, ifNumber, readOn}
 use Rattle.meaning.specs.Names.{Names, Program}
@@ -37,10 +39,10 @@ placed t p a = record { token = t; place = p; after = a }
 abbrev pub NoNumber : Placed → (f : ℕ) → Type 0
 NoNumber t f = (next : ℕ → Step) → (onNumber t next ≡ fault f (t .place)) × ((other : Step) → ifNumber (t .token) next other ≡ other)
 
--- a number stands here that is at most so much
+-- a number stands here that is at most so much, or it is refused with 6 (X6)
 unfoldable pub NumberRead : List ℕ → (at most f next place value : ℕ) → Type 0
 NumberRead text at most f next place v =
     Unless f
     (Past text at next × (tokenAt text at ≡ placed (token.number v) place next) × (v ≤ most))
     ((tokenAt text at .place ≡ next)
-    × (NoNumber (tokenAt text at) f ⊎ ((n : ℕ) × (a : ℕ) × (tokenAt text at ≡ placed (token.number n) next a) × (most < n) × (f ≡ 6))))
+    × (NoNumber (tokenAt text at) f ⊎ ((n : ℕ) × (a : ℕ) × (tokenAt text at ≡ placed (token.number n) next a) × (most < n) × (f ≡ oversize))))

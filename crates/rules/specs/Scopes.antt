@@ -1,4 +1,5 @@
--- What has been declared while a text is read, as the code has it, and what the functions that read declarations promise. Assumes nothing.
+-- What has been declared while a text is read, as the code has it, and what the functions that read declarations promise (docs/REFERENCE.md,
+-- G3 to G5, N1 to N3 and N6). Assumes nothing.
 use mathlib.Core.Bool.{Bool, true, false}
 use mathlib.Core.List.{List}
 use mathlib.Core.Option.{none}
@@ -59,7 +60,7 @@ pub record Declares (text : List ℕ) (state : Expect) (P S : List ℕ) (pos c :
 
 -- ---- a new name
 
--- The token at a position is a name that is not declared, and there is room for it.
+-- The token at a position is a name that is not declared (X5), and there is room for it (X6, X7).
 pub record NewAt (text P : List ℕ) (scope : Scope) (pos : ℕ) (noWire full : Bool) (place after : ℕ) : Type 0 where
   pub low : pos ≤ place
   pub some : place < after

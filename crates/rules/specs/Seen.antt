@@ -1,4 +1,4 @@
--- A token as the code has it: its kind is a number. Assumes nothing.
+-- A token (docs/REFERENCE.md, T) as the code has it: its kind is a number. Assumes nothing.
 use mathlib.Core.Bool.{cond}
 use mathlib.Core.List.{List}
 use Prim.Native.Nat.{ℕ, _-_}
@@ -44,7 +44,7 @@ tokenOf k s v =
     (cond (eqb k 23) (token.word token.monitor)
     (cond (eqb k 24) token.end (token.refused 2))))))))
 
--- 01's number of a refusal of a token of this kind that is not allowed where it stands
+-- X4: the number of the refusal of a token of this kind that is not allowed where it stands
 abbrev pub faultOf : ℕ → ℕ
 faultOf k = cond (ltb k 25) 3 2
 

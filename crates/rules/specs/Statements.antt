@@ -1,4 +1,5 @@
--- What the functions promise that read a text's statements: its declarations, and then its monitors up to the end. Assumes nothing.
+-- What the functions promise that read a text's statements (docs/REFERENCE.md, G2): its declarations, and then its monitors up to the end.
+-- Assumes nothing.
 use mathlib.Core.List.{List, []}
 use mathlib.Core.Path.{_≡_}
 use Prim.Native.Nat.{ℕ, _≤_}

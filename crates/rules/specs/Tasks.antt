@@ -30,7 +30,7 @@ pub record Task (text P : List ℕ) (pos c h : ℕ) (S T X : Type 0) (Before : S
 
 -- ---- writes
 
--- the writes of a letter so far: how many, and the last of their links
+-- the writes of a letter so far (G15): how many, and the last of their links
 pub record WritesAre (P : List ℕ) (c n i : ℕ) (ws : List Write) : Type 0 where
   pub count : n ≡ length ws
   pub few : length ws ≤ 2

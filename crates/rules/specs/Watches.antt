@@ -1,4 +1,4 @@
--- What `open` answers with: the counts and a watch, or a refusal and an empty watch. Assumes nothing.
+-- What `open` answers with (docs/REFERENCE.md, W1): the counts and a watch, or a refusal and an empty watch. Assumes nothing.
 use mathlib.Core.Bool.{false, cond}
 use mathlib.Core.List.{List, [], _∷_}
 use Prim.Native.Nat.{ℕ, suc}
@@ -24,7 +24,7 @@ unfoldable pub lettersFrom : (r : ℕ) → (kinds : List ℕ) → List ℕ
 lettersFrom r [] = []
 lettersFrom r (k ∷ ks) = cond (eqb k 0) (r ∷ lettersFrom (suc r) ks) (lettersFrom (suc r) ks)
 
--- a watch of these arrays: "tick count 0, first store values and one start mark a monitor"
+-- a watch of these arrays; W1: "tick count 0, the first values in its stores and each monitor at its start, and is not stopped"
 abbrev pub watchBy : Lists → (rows letters monitors wires : ℕ) → (initial : List ℕ) → Watch
 watchBy A r l m w vs =
     record {
@@ -47,12 +47,12 @@ watchBy A r l m w vs =
       stopped = false;
     }
 
--- the watch of an opened text; a refusal opens none
+-- the watch of an opened text; X13: "A refusal opens no watch"
 unfoldable pub watchOf : meaning.Answer Opened → Watch
 watchOf (meaning.value o) = watchBy (withMonitors noLists 0 0 0 (o .monitors)) (o .rowCount) (o .letterCount) (length (o .monitors)) (o .wires) (o .initial)
 watchOf (meaning.refused n p) = watchBy noLists 0 0 0 0 []
 
--- What an answer of the code says: both counts, or the refusal.
+-- What an answer of the code says; W1: "Opening a text gives a watch and both counts (S3), or a refusal"
 abbrev pub shownOutcome : Outcome → meaning.Answer Counts
 shownOutcome (Open r l) = meaning.value (record { rows = r; letters = l })
 shownOutcome (AtByte n p) = meaning.refused n (meaning.byte p)

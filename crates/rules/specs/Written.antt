@@ -1,4 +1,4 @@
--- Where the functions begin that read writes and have a token already. Assumes nothing.
+-- Where the functions begin that read writes (docs/REFERENCE.md, G15) and have a token already. Assumes nothing.
 use mathlib.Core.Bool.{not}
 use mathlib.Core.List.{List, [], _∷_, _++_}
 use Prim.Native.Nat.{ℕ}

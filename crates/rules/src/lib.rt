@@ -1,4 +1,4 @@
-// Opening a rule text: 01, "The rule text", "Shape" and "The watch". `open` takes every text.
+// Opening a rule text (docs/REFERENCE.md, G, N, S and W1). `open` takes every text.
 mod declarations;
 mod definitions;
 mod expression;

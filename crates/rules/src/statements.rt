@@ -1,4 +1,4 @@
-// The statements of a text one after the other: declarations, and then the monitors up to the end (01, "The rule text").
+// The statements of a text one after the other: declarations, and then the monitors up to the end (docs/REFERENCE.md, G2).
 use super::declarations::Declared;
 use super::declarations::Scope;
 use super::declarations::input;

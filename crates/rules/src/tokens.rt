@@ -31,7 +31,7 @@ const KNOT: u8 = 25;
 
 pub(crate) struct Seen {
     pub(crate) kind: u8,
-    // 01's number of a refusal of the token where it is not allowed.
+    // X4: the number of a refusal of the token where it is not allowed.
     pub(crate) fault: u8,
     pub(crate) value: u64,
     pub(crate) place: usize,
@@ -103,7 +103,7 @@ pub(crate) fn see(text: &[u8], at: usize) -> Seen
     }
 }
 
-// A position to read on from, with `fault` 0; or 01's number, and the place.
+// A position to read on from, with `fault` 0; or the refusal's number (X1), and the place.
 pub(crate) struct Next {
     pub(crate) fault: u8,
     pub(crate) at: usize,

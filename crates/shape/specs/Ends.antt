@@ -1,4 +1,4 @@
--- Rule 11 on rows: what a row has of one letter. Assumes nothing.
+-- Rule 11 (docs/REFERENCE.md, S12) on rows: what a row has of one letter. Assumes nothing.
 use mathlib.Core.Bool.{Bool, true, false, _&&_, _||_}
 use mathlib.Core.List.{List}
 use Prim.Native.Nat.{ℕ}
@@ -7,7 +7,7 @@ use Rattle.shape.specs.Walk.{byOperator, walkAt}
 use Rattle.shape.specs.Sets.{has}
 use Rattle.shape.specs.declared.ends.EndSets.{EndSets}
 
--- whether a part is nullable, whether a letter can come last in it and be followed in it, and whether it is an open end of a thread in it
+-- whether a part is nullable, whether a letter can come last in it (S4) and be followed in it (S6), and whether it is an open end of a thread in it (S12)
 pub record Ends : Type 0 where
   pub nullable : Bool
   pub last : Bool
@@ -56,6 +56,6 @@ module _ (kind left right : List ℕ) where
   abbrev pub endsAt : (letter n row : ℕ) → Ends
   endsAt letter n row = walkAt kind left right (letterEnds false) (λ a. letterEnds (eqb a letter)) starEnds joinedEnds n row
 
-  -- the letter is an open end of a thread in the monitor at a row
+  -- S12: the letter is an open end of a thread in the monitor at a row
   unfoldable pub openAt : ℕ → ℕ → Bool
   openAt row letter = endsAt letter 1024 row .fault

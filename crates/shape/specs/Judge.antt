@@ -1,4 +1,4 @@
--- What `judge` answers, and what that says of a monitor. Assumes nothing.
+-- What `judge` answers, and what that says of a monitor (docs/REFERENCE.md, S12, S13 and X10). Assumes nothing.
 use mathlib.Core.Bool.{cond}
 use mathlib.Core.List.{List}
 use Prim.Native.Nat.{ℕ, _-_}
@@ -15,7 +15,7 @@ use Rattle.shape.specs.declared.Judged.the-variants.{Fine, OpenEnd, Fork
 abbrev pub orRest : (first end : ℕ) → (rule letter : ℕ) → Shape → Shape
 orRest first end rule letter rest = cond (ltb letter end) (turned-away rule (letter - first)) rest
 
--- rule 11 and then rule 12, each at the lowest of the letters from the first on and below the end
+-- X10: rule 11 and then rule 12, each at the lowest of the letters from the first on and below the end
 unfoldable pub judgeOf : (kind left right look want : List ℕ) → (row first end : ℕ) → Shape
 judgeOf kind left right look want row first end =
     orRest first end openEnd (lowest (openAt kind left right row) first (end - first))

@@ -1,4 +1,4 @@
--- Rule 12 on rows: what a row has of one letter and its rivals, the others that one word meets together with it. Assumes nothing.
+-- Rule 12 (docs/REFERENCE.md, S13) on rows: what a row has of one letter and its rivals, the others that one word meets together with it. Assumes nothing.
 use mathlib.Core.Bool.{Bool, true, false, not, _&&_, _||_}
 use mathlib.Core.List.{List}
 use Prim.Native.Nat.{ℕ}
@@ -22,7 +22,7 @@ pub record Sides : Type 0 where
 abbrev pub letterSides : Bool → Bool → Sides
 letterSides own rival = record { nullable = false; «first_own» = own; «first_rival» = rival; «next_own» = false; «next_rival» = false; fork = false }
 
--- what comes first in f comes next after what comes last in e
+-- S6: what comes first in f comes next after what comes last in e
 abbrev pub linked : Sides → Sides → Bool
 linked e f = (f .«first_own» && (e .«next_rival» || f .«first_rival»)) || (f .«first_rival» && e .«next_own»)
 
@@ -69,7 +69,7 @@ pipeSides e f = record {
 abbrev pub joinedSides : ℕ → Sides → Sides → Sides
 joinedSides k e f = byOperator k (seqSides e f) (altSides e f) (pipeSides e f)
 
--- one word meets the wire literals of both letters
+-- S13: "some word meets the wire literals of both"
 abbrev pub rivals : (look want : List ℕ) → ℕ → ℕ → Bool
 rivals look want a b = compatible (getD look a 0) (getD want a 0) (getD look b 0) (getD want b 0)
 
@@ -90,6 +90,6 @@ module _ (kind left right look want : List ℕ) where
   sidesAt letter n row =
       walkAt kind left right (letterSides false false) (λ a. letterSides (eqb a letter) (not (eqb a letter) && rivals look want letter a)) starSides joinedSides n row
 
-  -- the letter is side by side with a rival in the monitor at a row, whose last letters are followed by its first ones, as in a star
+  -- S8: the letter is side by side with a rival in the monitor at a row; S6: "its first letters come next after its last ones", as in a star
   unfoldable pub forkAt : ℕ → ℕ → Bool
   forkAt row letter = starSides (sidesAt letter 1024 row) .fork

@@ -1,4 +1,4 @@
-// Rules 11 ("open end") and 12 ("fork") for one monitor, on the rows of the table, each of which is a word. Its letters are asked 64 at a time, and each time its rows are walked once.
+// Rules 11 (docs/REFERENCE.md, S12) and 12 (S13) for one monitor, on the rows of the table, each of which is a word. Its letters are asked 64 at a time, and each time its rows are walked once.
 
 ghost use mathlib.Core.Path.{_≡_};
 ghost use Rattle.shape.specs.Walk.{kinds, lefts, rights};

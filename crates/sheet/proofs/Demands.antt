@@ -10,12 +10,22 @@ use Rattle.lexer.specs.Tokens.{Placed}
 use Rattle.trace.specs.Answer as records
 use Rattle.trace.specs.Whole.{Bytes, Words, readTrace, writeTrace}
 use Rattle.trace.proofs.Traces as traces
+use Rattle.trace.proofs.read_record.Statement as read-record
+use Rattle.trace.proofs.read_record.Met as read-record-met
 use Rattle.trace.proofs.read_at.Statement as read-at
 use Rattle.trace.proofs.read_at.Met as read-at-met
+use Rattle.trace.proofs.count_words.Statement as count-words
+use Rattle.trace.proofs.count_words.Met as count-words-met
 use Rattle.trace.proofs.read_trace.Statement as read-trace
 use Rattle.trace.proofs.read_trace.Met as read-trace-met
+use Rattle.trace.proofs.write_record.Statement as put-record
+use Rattle.trace.proofs.write_record.Met as put-record-met
+use Rattle.trace.proofs.trace_length.Statement as trace-length
+use Rattle.trace.proofs.trace_length.Met as trace-length-met
 use Rattle.trace.proofs.write_trace.Statement as write-trace
 use Rattle.trace.proofs.write_trace.Met as write-trace-met
+use Rattle.lexer.proofs.token_at.Statement as token-at
+use Rattle.lexer.proofs.token_at.Met as token-at-met
 use Rattle.meaning.specs.Answers.{value, refused, byte, letterOf}
 use Rattle.meaning.specs.Names.{Program}
 use Rattle.meaning.specs.Grammar.{plainTokens}
@@ -24,7 +34,7 @@ use Rattle.meaning.specs.Viable.{Viable, Ample, Refusal}
 use Rattle.meaning.specs.Acceptance.{Written, Acceptable, TurnedAway}
 use Rattle.meaning.specs.Table.{laidAll}
 use Rattle.meaning.specs.Numbered.{numberedFrom}
-use Rattle.meaning.specs.Calls.{Reply, opening, AllRightly}
+use Rattle.meaning.specs.Calls.{Reply, opening, standing, AllRightly}
 use Rattle.meaning.specs.Fit.{start}
 use Rattle.meaning.specs.Sheet.{sheet}
 use Rattle.meaning.proofs.Exactly as exactly
@@ -35,9 +45,13 @@ use Rattle.rules.specs.Laying.{rowWord, codeOf}
 use Rattle.rules.specs.Watches.{watchOf}
 use Rattle.rules.proofs.open.Statement as open-text
 use Rattle.rules.proofs.open.Met as open-text-met
-use Rattle.monitor.specs.Calls.{repliesOf}
+use Rattle.monitor.specs.Calls.{repliesOf, watchAfterAll, Held}
 use Rattle.monitor.proofs.Program as program
-use Rattle.monitor.proofs.Calls.{calls-answered}
+use Rattle.monitor.proofs.Calls as calls
+use Rattle.monitor.proofs.step.Statement as step
+use Rattle.monitor.proofs.step.Met as step-met
+use Rattle.monitor.proofs.refused_by.Statement as refused-by
+use Rattle.monitor.proofs.refused_by.Met as refused-by-met
 use Rattle.monitor.proofs.tick.Statement as tick
 use Rattle.monitor.proofs.tick.Met as tick-met
 use Rattle.sheet.specs.Pieces.{joined, printedInPieces}
@@ -81,12 +95,35 @@ run-entry = run-met.met
 pub finish-entry : {M : Type 1} → finish.statement M
 finish-entry = finish-met.met
 
--- wire records: the reader by itself, and whole traces
+-- one tick on lent tables, and 16, 17, 15
+pub step-entry : {M : Type 1} → step.statement M
+step-entry = step-met.met
+
+pub refused-by-entry : {M : Type 1} → refused-by.statement M
+refused-by-entry = refused-by-met.met
+
+-- tokens
+pub token-at-entry : {M : Type 1} → token-at.statement M
+token-at-entry = token-at-met.met
+
+-- wire records: one, by itself at a position, and whole traces
+pub read-record-entry : {M : Type 1} → read-record.statement M
+read-record-entry = read-record-met.met
+
 pub read-at-entry : {M : Type 1} → read-at.statement M
 read-at-entry = read-at-met.met
 
+pub put-record-entry : {M : Type 1} → put-record.statement M
+put-record-entry = put-record-met.met
+
+pub count-words-entry : {M : Type 1} → count-words.statement M
+count-words-entry = count-words-met.met
+
 pub read-trace-entry : {M : Type 1} → read-trace.statement M
 read-trace-entry = read-trace-met.met
+
+pub trace-length-entry : {M : Type 1} → trace-length.statement M
+trace-length-entry = trace-length-met.met
 
 pub write-trace-entry : {M : Type 1} → write-trace.statement M
 write-trace-entry = write-trace-met.met
@@ -139,10 +176,15 @@ no-two-alike = traces.read-unique
 pub calls-rightly : (text : List ℕ) (o : Opened) → openText text ≡ value o → (ws : List ℕ)
     → (length (repliesOf (watchOf (value o)) ws) ≡ length ws) × AllRightly (o .monitors) (o .initial) (o .wires) ws (repliesOf (watchOf (value o)) ws)
 calls-rightly text o e ws =
-    subst (λ (rs : List Reply). (length rs ≡ length ws) × AllRightly (o .monitors) (o .initial) (o .wires) ws rs) (sym (calls-answered text o e ws)) (
+    subst (λ (rs : List Reply). (length rs ≡ length ws) × AllRightly (o .monitors) (o .initial) (o .wires) ws rs) (sym (calls.calls-answered text o e ws)) (
       length-replies (o .monitors) (o .initial) (o .wires) (opening (start (o .initial))) ws,
       replies-rightly (o .monitors) (o .initial) (o .wires) ws,
     )
+
+-- And the watch then has the tick count, the stop and the store values that the meaning fixes; all else of it is as opening gave it.
+pub watch-held : (text : List ℕ) (o : Opened) → openText text ≡ value o → (ws : List ℕ)
+    → Held (watchOf (value o)) (watchAfterAll (watchOf (value o)) ws) (standing (o .monitors) (o .initial) (o .wires) ws)
+watch-held = calls.watch-held
 
 -- However a trace is cut into pieces, `begin`, a `run` over each piece and `finish` print the sheet. (In one go: `sheet-entry` says it of `linewatch_sheet`.)
 pub sheet-in-pieces : (text : List ℕ) (cut : List (List ℕ)) → printedInPieces text cut ≡ sheet text (joined cut)

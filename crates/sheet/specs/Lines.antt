@@ -1,4 +1,4 @@
--- The lines that a watch prints, record by record; over any watch and any bytes. Assumes nothing.
+-- The lines that a watch prints, record by record (docs/REFERENCE.md, P3 to P7); over any watch and any bytes. Assumes nothing.
 use mathlib.Core.Bool.{Bool, true, false, cond}
 use mathlib.Core.List.{List, [], _∷_, _++_}
 use Prim.Native.Nat.{ℕ, zero, suc}
@@ -16,10 +16,11 @@ use Rattle.rules.specs.declared.Watch.{Watch}
 use Rattle.rules.specs.Watches.{watchOf}
 use Rattle.monitor.specs.Calls.{replyOf, watchAfter}
 
--- "per tick its number, the word in 16 lower-case hexadecimal digits, and `ok` or `bad M`"
+-- P4: "`T W ok`, its number and word"
 abbrev pub okLine : (t w : ℕ) → List ℕ
 okLine t w = line (decimal t ∷ hexadecimal 16 w ∷ bytes "ok" ∷ [])
 
+-- P4: "`T W bad M` with the monitor"
 abbrev pub badLine : (t w monitor : ℕ) → List ℕ
 badLine t w m = line (decimal t ∷ hexadecimal 16 w ∷ bytes "bad" ∷ decimal m ∷ [])
 
@@ -49,28 +50,28 @@ ran p s rest b = record { printed = p; after = s; left = rest; ended = b }
 abbrev pub printing : List ℕ → Ran → Ran
 printing p x = ran (p ++ x .printed) (x .after) (x .left) (x .ended)
 
--- the call with word w of a record of n bytes: an ok line goes on behind the record, any other ends
+-- the call with word w of a record of n bytes: an ok line goes on behind the record, any other ends; P4: "and ends the sheet", P5: the same
 abbrev pub onReply : calls.Reply → Run → (rest : List ℕ) → (w n : ℕ) → (Run → List ℕ → Ran) → Ran
 onReply calls.ok s rest w n next = printing (okLine (s .watch .ticks) w) (next (run (watchAfter (s .watch) w) w) (drop n rest))
 onReply (calls.bad m) s rest w n next = ran (badLine (s .watch .ticks) w m) (run (watchAfter (s .watch) w) (s .before)) rest true
 onReply (calls.refused k p) s rest w n next = ran (refusalLine k (s .watch .ticks ∷ [])) (run (watchAfter (s .watch) w) (s .before)) rest true
 
--- what was read: at the end of the bytes, or where they cut a record short, more may come; an idle byte ends the sheet
+-- what was read: at the end of the bytes, or where they cut a record short, more may come; an idle byte ends the sheet (P5)
 abbrev pub onRead : Answer Item → Run → (rest : List ℕ) → (Run → List ℕ → Ran) → Ran
 onRead (value (word w n)) s rest next = onReply (replyOf (s .watch) w) s rest w n next
 onRead (value end) s rest next = ran [] s rest false
-onRead (refused k p) s rest next = cond (eqb k 13) (ran [] s rest false) (ran (refusalLine k (s .watch .ticks ∷ [])) s rest true)
+onRead (refused k p) s rest next = cond (eqb k torn) (ran [] s rest false) (ran (refusalLine k (s .watch .ticks ∷ [])) s rest true)
 
 -- so many records at most
 unfoldable pub runOn : ℕ → Run → List ℕ → Ran
 runOn zero s rest = ran [] s rest false
 runOn (suc k) s rest = onRead (readRecord rest (s .before)) s rest (runOn k)
 
--- a record has at least one byte
+-- a record has at least one byte (R1)
 abbrev pub runOver : Run → List ℕ → Ran
 runOver s rest = runOn (length rest) s rest
 
--- the last line where no more bytes come and so many are left: `clean N`, or a record is cut short
+-- the last line where no more bytes come and so many are left: P7: "`clean N`", or a record is cut short (R5)
 abbrev pub lastLine : (t left : ℕ) → List ℕ
 lastLine t zero = cleanLine t
 lastLine t (suc n) = refusalLine torn (t ∷ [])
@@ -82,6 +83,6 @@ abbrev pub isRefused : {A : Type 0} → meaning.Answer A → Bool
 isRefused (meaning.value o) = false
 isRefused (meaning.refused number place) = true
 
--- the sheet: "for a refused text that line is the whole sheet"
+-- the sheet; P3: "If the text is refused its refusal is the only line, whatever the trace holds."
 abbrev pub sheetOf : meaning.Answer Opened → List ℕ → List ℕ
 sheetOf a records = firstLine (countsOf a) ++ cond (isRefused a) [] (closed (runOver (run (watchOf a) 0) records))

@@ -1,4 +1,4 @@
--- The sheet of a trace that comes in pieces: what `begin`, a `run` over each piece and `finish` print. Assumes nothing.
+-- The sheet (docs/REFERENCE.md, P3 to P7) of a trace that comes in pieces: what `begin`, a `run` over each piece and `finish` print. Assumes nothing.
 use mathlib.Core.Bool.{cond}
 use mathlib.Core.List.{List, [], _∷_, _++_}
 use Prim.Native.Nat.{ℕ}

@@ -1,4 +1,4 @@
-// The lines of the sheet (01, "The printed sheet"), each written into a lent range from a place on.
+// The lines of the sheet (docs/REFERENCE.md, P), each written into a lent range from a place on.
 use super::page::put;
 use super::page::put_decimal;
 use super::page::put_text;

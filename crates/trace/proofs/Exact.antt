@@ -1,4 +1,4 @@
--- Reading one record answers exactly by 01's words, and looks at no byte past it. Assumes nothing.
+-- Reading one record answers exactly as docs/REFERENCE.md says (R4 to R6), and looks at no byte past it. Assumes nothing.
 use mathlib.Core.Path.{_≡_, refl, sym, ap, ap₂, _∙_}
 use mathlib.Core.Logic.{_⊎_, inl, inr, ⊎-elim, _↔_}
 use mathlib.Core.Bool.{Bool, true, false, _||_, _&&_}
@@ -17,7 +17,7 @@ use Rattle.trace.proofs.Digits.{number-ext}
 use Rattle.trace.proofs.Merge.{idle-here, newByte-given, newByte-kept}
 use Rattle.trace.proofs.Clash.{clash}
 
--- "Reading at the very end answers 'end'", and only there.
+-- R4: "where no byte is left, with the end", and only there.
 pub end-exactly : (s : List ℕ) (before : ℕ) → (readRecord s before ≡ value end) ↔ (s ≡ [])
 unfolding readRecord
 end-exactly [] before = (λ e. refl, λ e. refl)
@@ -40,7 +40,7 @@ torn-exactly map given before =
     is-torn false true x e = let z : _≡_ {A = ℕ} idleByte torn = cc in absurd (omega arith)
     is-torn false false x e = clash (cc)
 
--- 01's idle byte, by its bit
+-- R6: an idle byte, by its bit
 abbrev pub SomeIdle : ℕ → ℕ → List ℕ → Type 0
 SomeIdle before map given = (i : ℕ) × (i < 8) × (bit i map ≡ 1) × (givenFor i map given ≡ byte i before)
 

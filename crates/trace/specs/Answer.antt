@@ -1,4 +1,4 @@
--- The two kinds of answer: a value, or a refusal by its number and place in 01's table "What is turned away". Assumes nothing.
+-- The two kinds of answer: a value, or a refusal (X1: "A refusal is a number and a place."). Assumes nothing.
 use Prim.Native.Nat.{ℕ}
 
 pub data Answer (A : Type 0) : Type 0 where

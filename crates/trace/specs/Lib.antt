@@ -1,4 +1,4 @@
--- What a wire record is and what reading and writing answer (01, "Wire records"): the definitions that a reader of this crate must believe.
+-- What a wire record is and what reading and writing answer (docs/REFERENCE.md, R1 to R12): all of it is to be believed.
 pub mod Answer
 pub mod Record
 pub mod Whole
