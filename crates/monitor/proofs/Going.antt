@@ -12,8 +12,8 @@ use Rattle.meaning.specs.Fit.{Tick}
 use Rattle.meaning.specs.Positions.{Way, joined, Positions, at-start, on, goAll, go, Ticked, fine, wrong, goOn, goEach}
 use Rattle.meaning.proofs.Shifted.{shift, shiftAll}
 use Rattle.monitor.specs.Letters.{Given}
-use Rattle.monitor.specs.Walk.{Told, told, andThen, askM, leaveM}
-use Rattle.monitor.specs.Ticks.{steps, Layout, lettersGo, startGoes, monitorGoes, Reached, reached, reachedBy, monitorsGo}
+use Rattle.monitor.specs.Walk.{Told, told, askM, leaveM}
+use Rattle.monitor.specs.Ticks.{steps, Layout, andThen, lettersGo, startGoes, monitorGoes, Reached, reached, reachedBy, monitorsGo}
 use Rattle.monitor.proofs.Memory.{Exactly, Goes, exactly-none, exactly-then, goes-over, goes-then}
 
 -- ---- one monitor

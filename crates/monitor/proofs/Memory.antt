@@ -12,13 +12,60 @@ use Rattle.meaning.specs.Lists.{_∈_}
 use Rattle.meaning.specs.Fit.{Tick}
 use Rattle.meaning.specs.Positions.{joined, Entered, met, passed, blocked}
 use Rattle.meaning.specs.Table.{Table}
-use Rattle.meaning.specs.RowWalk.{enterRow, leaveRow}
+use Rattle.meaning.specs.RowWalk.{enterRow}
 use Rattle.meaning.proofs.ListLaws.{no-∈, append-∈, ∈-left, ∈-right}
-use Rattle.monitor.specs.Walk.{Came, Told, told, andThen, answerCode}
-use Rattle.monitor.specs.Ticks.{emptyMemory}
+use Rattle.monitor.specs.Walk.{Came, Told, told}
+use Rattle.monitor.specs.Ticks.{andThen, emptyMemory}
 use Rattle.monitor.proofs.Padded.{zeros-at}
 
--- ---- what may be kept
+-- ---- what is kept
+
+-- what is known from entering a row: the number that it is kept as, and the letters that are marked where it is kept
+pub record Known : Type 0 where
+  pub code : ℕ
+  pub letters : List ℕ
+
+abbrev pub entered : Entered → Known
+entered (met l) = record { code = 3; letters = l ∷ [] }
+entered passed = record { code = 2; letters = [] }
+entered blocked = record { code = 1; letters = [] }
+
+-- of each row
+abbrev pub Rows : Type 0
+Rows = ℕ → Known
+
+-- those of R at tick t, N calls deep
+abbrev pub rowsOf : (N : ℕ) → Table → Tick → Rows
+rowsOf N R t r = entered (enterRow N R r t)
+
+-- letter l is marked in the memory
+abbrev pub Marked : List ℕ → ℕ → Type 0
+Marked M l = getD M (1024 + l) 0 ≡ 1
+
+-- a is kept as the number k, and its letters are marked
+pub record Kept (a : Known) (k : ℕ) (M : List ℕ) : Type 0 where
+  pub same : k ≡ a .code
+  pub marked : (l : ℕ) → l ∈ a .letters → Marked M l
+
+-- what the memory has of the first n rows is right, and a letter is marked (1) or not (0)
+pub record Memory (F : Rows) (n : ℕ) (M : List ℕ) : Type 0 where
+  pub long : length M ≡ 1280
+  pub rows : (r : ℕ) → r < n → (getD M r 0 ≡ 0 → ⊥) → Kept (F r) (getD M r 0) M
+  pub bits : (l : ℕ) → l < 256 → getD M (1024 + l) 0 ≤ 1
+
+-- nothing is known, so all of it is right
+pub memory-empty : (F : Rows) (n : ℕ) → Memory F n emptyMemory
+memory-empty F n = record {
+  long = length-replicate {A = ℕ} 1280 0;
+  rows = λ r h k. absurd (k (zeros-at 1280 r));
+  bits = λ l h. rw (zeros-at 1280 (1024 + l)) (omega arith);
+}
+
+-- and nothing is marked
+pub empty-unmarked : (l : ℕ) → Marked emptyMemory l → ⊥
+empty-unmarked l m = omega (arith, zeros-at 1280 (1024 + l))
+
+-- ---- what a walk comes to; Good says which memories are right
 
 -- there is a way
 abbrev pub found : Option (List ℕ) → Bool
@@ -29,66 +76,6 @@ found (some ns) = true
 abbrev pub lettersOf : Option (List ℕ) → List ℕ
 lettersOf none = []
 lettersOf (some ns) = ns
-
--- what is known of a row: the number that it is kept as, and the letters that are marked where it is kept
-pub record Known : Type 0 where
-  pub code : ℕ
-  pub letters : List ℕ
-
--- from entering the row
-abbrev pub entered : Entered → Known
-entered (met l) = record { code = 3; letters = l ∷ [] }
-entered passed = record { code = 2; letters = [] }
-entered blocked = record { code = 1; letters = [] }
-
--- from leaving it
-abbrev pub answered : Option (List ℕ) → Known
-answered a = record { code = answerCode (found a); letters = lettersOf a }
-
--- of each row, from entering it (true) and from leaving it (false)
-abbrev pub Rows : Type 0
-Rows = (entering : Bool) → ℕ → Known
-
--- those of R at tick t, N calls deep
-abbrev pub rowsOf : (N : ℕ) → Table → Tick → Rows
-rowsOf N R t true r = entered (enterRow N R r t)
-rowsOf N R t false r = answered (leaveRow N R r t)
-
--- ---- what is kept
-
--- letter l is marked in the memory
-abbrev pub Marked : List ℕ → ℕ → Type 0
-Marked M l = getD M (2048 + l) 0 ≡ 1
-
--- a is kept as the number k, and its letters are marked
-pub record Kept (a : Known) (k : ℕ) (M : List ℕ) : Type 0 where
-  pub same : k ≡ a .code
-  pub marked : (l : ℕ) → l ∈ a .letters → Marked M l
-
--- where what is known from entering a row is kept, and what from leaving it
-abbrev pub place : (entering : Bool) → ℕ → ℕ
-place true r = r
-place false r = 1024 + r
-
--- what the memory has of the first n rows is right, and a letter is marked (1) or not (0)
-pub record Memory (F : Rows) (n : ℕ) (M : List ℕ) : Type 0 where
-  pub long : length M ≡ 2304
-  pub rows : (q : Bool) (r : ℕ) → r < n → (getD M (place q r) 0 ≡ 0 → ⊥) → Kept (F q r) (getD M (place q r) 0) M
-  pub bits : (l : ℕ) → l < 256 → getD M (2048 + l) 0 ≤ 1
-
--- nothing is known, so all of it is right
-pub memory-empty : (F : Rows) (n : ℕ) → Memory F n emptyMemory
-memory-empty F n = record {
-  long = length-replicate {A = ℕ} 2304 0;
-  rows = λ q r h k. absurd (k (zeros-at 2304 (place q r)));
-  bits = λ l h. rw (zeros-at 2304 (2048 + l)) (omega arith);
-}
-
--- and nothing is marked
-pub empty-unmarked : (l : ℕ) → Marked emptyMemory l → ⊥
-empty-unmarked l m = omega (arith, zeros-at 2304 (2048 + l))
-
--- ---- what a walk comes to; Good says which memories are right
 
 module _ (Good : List ℕ → Type 0) where
   -- the letters marked in M′ are those marked in M, and ns
@@ -122,6 +109,15 @@ module _ {Good : List ℕ → Type 0} where
     grows = λ l m. b .grows l (a .grows l m);
     adds = λ l i. ⊎-elim (λ j. b .grows l (a .adds l j)) (b .adds l) (append-∈ ns i);
     only = λ l m. ⊎-elim (λ k. ⊎-elim inl (λ j. inr (∈-left ks j)) (a .only l k)) (λ j. inr (∈-right ns j)) (b .only l m);
+  }
+
+  -- the order does not matter
+  pub exactly-swapped : {M M′ : List ℕ} (ns ks : List ℕ) → Exactly Good M (ns ++ ks) M′ → Exactly Good M (ks ++ ns) M′
+  exactly-swapped ns ks x = record {
+    good = x .good;
+    grows = x .grows;
+    adds = λ l i. x .adds l (⊎-elim (∈-right ns) (∈-left ks) (append-∈ ks i));
+    only = λ l m. ⊎-elim inl (λ i. inr (⊎-elim (∈-right ks) (∈-left ns) (append-∈ ns i))) (x .only l m);
   }
 
   -- there is no way; there is nothing to go on with

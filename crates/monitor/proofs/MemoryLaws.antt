@@ -1,28 +1,27 @@
 -- The walk with a memory is right: what entering a row comes to, and each answer, is that of the walk without one; and the letters that it marks are those of the way, wherever there is one. Assumes nothing.
 use mathlib.Core.Bool.{Bool, true, false, cond}
 use mathlib.Core.List.{List, [], _∷_}
-use mathlib.Core.Option.{Option}
+use mathlib.Core.Option.{Option, none, some}
 use mathlib.Core.Path.{_≡_, refl, sym, ap, _∙_}
 use mathlib.Core.Logic.{_⊎_, inl, inr, ⊎-elim}
 use Prim.Native.Nat.{ℕ, zero, suc, _+_, _<_, _≤_}
 use native.Mathlib.Omega.{arith}
 use native.Mathlib.Decide.{ℕ-discrete}
 use lib.Dec.{eqb, leb}
-use borrow.Author.Tests.{eqb-true, eqb-false, lt-leb}
+use borrow.Author.Tests.{eqb-true, eqb-false, ne-eqb, lt-leb}
 use lib.ListN.{length, getD, set, length-set}
 use lib.Seq.{getD-set-same, getD-set-other}
 use Rattle.meaning.specs.Fit.{Tick, meets}
-use Rattle.meaning.specs.Positions.{Entered, met, passed, blocked, thenEnter, orEnter, orPass, goesBy}
-use Rattle.meaning.specs.Table.{Kind, is-letter, is-seq, is-alt, is-star, is-pipe, Table}
+use Rattle.meaning.specs.Positions.{joined, Entered, met, passed, blocked, thenEnter, orEnter, orPass, goesBy}
+use Rattle.meaning.specs.Table.{Under, Kind, is-letter, is-seq, is-alt, is-star, is-pipe, Table}
 use Rattle.meaning.specs.RowWalk.{enterBy, leaveBy, enterRow, askRow, leaveRow}
 use Rattle.lexer.proofs.Bools.{eqb-sym}
 use Rattle.meaning.proofs.ListLaws.{here, one-∈}
-use Rattle.meaning.proofs.Ends.{entersBy, leavesBy, EnterEnds, AskEnds, LeaveEnds, enter-calls, enter-unfolds, ask-unfolds, passes-on, leave-calls, leave-unfolds, own-calls, own-unfolds}
-use Rattle.words.specs.Words.{part3}
+use Rattle.meaning.proofs.Ends.{entersBy, leavesBy, EnterEnds, AskEnds, LeaveEnds, goes-same, ends-enter, enter-calls, enter-unfolds, ask-unfolds, passes-on, leave-calls, leave-unfolds, own-calls, own-unfolds}
 use Rattle.monitor.specs.Letters.{Given}
-use Rattle.monitor.specs.Walk.{Came, came, told, Entry, Call, orPassCode, orEnterCode, enterOn, rememberedEntry, enterM, askFrom, leaveTo, leaveOn, answerCode, remembered, askM, leaveM}
+use Rattle.monitor.specs.Walk.{Came, came, told, Entry, Call, orPassCode, orEnterCode, enterOn, rememberedEntry, enterM, askFrom, both, leaveTo, leaveOn, askM, leaveM}
 use Rattle.monitor.proofs.Coded.{CodedAs, Coded}
-use Rattle.monitor.proofs.Memory.{found, Rows, rowsOf, Marked, Kept, place, Memory, Exactly, Enters, Goes, exactly-same, exactly-none, exactly-then, goes-not, goes-over, goes-then}
+use Rattle.monitor.proofs.Memory.{Rows, rowsOf, Marked, Kept, Memory, Exactly, Enters, Goes, exactly-same, exactly-none, exactly-then, exactly-swapped, goes-not, goes-over}
 
 -- ---- one thing after another, whatever Good says of every memory
 
@@ -58,12 +57,17 @@ module _ {Good : List ℕ → Type 0} where
   ask-from passed leave r p q = rw (p .same) (record { yes = q refl .yes; marks = λ s. exactly-then [] _ (p .marks) (q refl .marks s) })
   ask-from blocked leave r p q = rw (p .same) (goes-not refl)
 
--- ---- tests, and stores
+  -- a thread is entered, and with it the rest goes on, which has the way c; a thread that passed has ended
+  enter-both : (a : Entered) (c : Option (List ℕ)) {M : List ℕ} {x : Came} (leave : Call) (u : ℕ) → Enters Good a M x → Goes Good c (x .memory) (leave u (x .memory))
+      → Goes Good (joined c (goesBy a (some []))) M (both leave u x)
+  enter-both (met l) none leave u p q = rw (p .same) (goes-not (q .yes))
+  enter-both (met l) (some ns) leave u p q = rw (p .same) (record { yes = q .yes; marks = λ s. exactly-swapped (l ∷ []) ns (exactly-then (l ∷ []) ns (p .marks) (q .marks tt)) })
+  enter-both passed none leave u p q = rw (p .same) (goes-not (q .yes))
+  enter-both passed (some ns) leave u p q = rw (p .same) (record { yes = q .yes; marks = λ s. exactly-swapped [] ns (exactly-then [] ns (p .marks) (q .marks tt)) })
+  enter-both blocked none leave u p q = rw (p .same) (goes-not refl)
+  enter-both blocked (some ns) leave u p q = rw (p .same) (goes-not refl)
 
--- what is kept of an answer tells it
-told-by : (b : Bool) → eqb (answerCode b) 2 ≡ b
-told-by true = refl
-told-by false = refl
+-- ---- stores
 
 -- an element after a store
 after-set : (M : List ℕ) (i j v : ℕ) → i < length M → ((j ≡ i) × (getD (set M i v) j 0 ≡ v)) ⊎ (getD (set M i v) j 0 ≡ getD M j 0)
@@ -76,35 +80,18 @@ after-set M i j v h = go (ℕ-discrete j i)
 -- ---- with a memory of n rows
 
 module _ (F : Rows) (n : ℕ) (few : n ≤ 1024) where
-  -- a mark stands behind what is kept of the rows
-  behind : (q : Bool) (r l : ℕ) → r < n → 2048 + l ≡ place q r → ⊥
-  behind true r l h e = omega arith
-  behind false r l h e = omega arith
-
-  -- and all of it within the memory
-  low : (q : Bool) (r : ℕ) → r < n → place q r < 2304
-  low true r h = omega arith
-  low false r h = omega arith
-
-  -- each row has its own places
-  same-row : (q p : Bool) (r i : ℕ) → r < n → i < n → place p i ≡ place q r → F p i ≡ F q r
-  same-row true true r i h k e = ap (F true) (omega arith)
-  same-row true false r i h k e = absurd (omega arith)
-  same-row false true r i h k e = absurd (omega arith)
-  same-row false false r i h k e = ap (F false) (omega arith)
-
   -- what is known of a row is stored
-  stored : (q : Bool) (r : ℕ) → r < n → {M ns N : List ℕ} (k : ℕ) → Kept (F q r) k N → Exactly (Memory F n) M ns N → Exactly (Memory F n) M ns (set N (place q r) k)
-  stored q r h {M} {ns} {N} k c x =
+  stored : (r : ℕ) → r < n → {M ns N : List ℕ} (k : ℕ) → Kept (F r) k N → Exactly (Memory F n) M ns N → Exactly (Memory F n) M ns (set N r k)
+  stored r h {M} {ns} {N} k c x =
       let m = x .good in
-      let mark : (l : ℕ) → getD (set N (place q r) k) (2048 + l) 0 ≡ getD N (2048 + l) 0 = λ l. getD-set-other N (place q r) (2048 + l) k 0 (behind q r l h) in
+      let mark : (l : ℕ) → getD (set N r k) (1024 + l) 0 ≡ getD N (1024 + l) 0 = λ l. getD-set-other N r (1024 + l) k 0 (λ e. omega arith) in
       record {
         good = record {
-          long = length-set N (place q r) k ∙ m .long;
-          rows = λ p i j. ⊎-elim
-              (λ z. rw (z .1, same-row q p r i h j (z .0)) (λ u. record { same = c .same; marked = λ l w. mark l ∙ c .marked l w }))
-              (λ z. rw z (λ u. let d = m .rows p i j u in record { same = d .same; marked = λ l w. mark l ∙ d .marked l w }))
-              (after-set N (place q r) (place p i) k (omega (arith, low q r h, m .long)));
+          long = length-set N r k ∙ m .long;
+          rows = λ i j. ⊎-elim
+              (λ z. rw (z .1, z .0) (λ u. record { same = c .same; marked = λ l w. mark l ∙ c .marked l w }))
+              (λ z. rw z (λ u. let d = m .rows i j u in record { same = d .same; marked = λ l w. mark l ∙ d .marked l w }))
+              (after-set N r i k (omega (arith, m .long)));
           bits = λ l b. rw (mark l) (m .bits l b);
         };
         grows = λ l z. mark l ∙ x .grows l z;
@@ -113,26 +100,26 @@ module _ (F : Rows) (n : ℕ) (few : n ≤ 1024) where
       }
 
   -- letter l is marked, and no other
-  marked-now : (l : ℕ) → l < 256 → {M : List ℕ} → Memory F n M → Exactly (Memory F n) M (l ∷ []) (set M (2048 + l) 1)
+  marked-now : (l : ℕ) → l < 256 → {M : List ℕ} → Memory F n M → Exactly (Memory F n) M (l ∷ []) (set M (1024 + l) 1)
   marked-now l small {M} m = record {
     good = record {
-      long = length-set M (2048 + l) 1 ∙ m .long;
-      rows = λ q r h. rw (getD-set-other M (2048 + l) (place q r) 1 0 (λ e. behind q r l h (sym e))) (λ u. let d = m .rows q r h u in record { same = d .same; marked = λ k w. grown k (d .marked k w) });
+      long = length-set M (1024 + l) 1 ∙ m .long;
+      rows = λ r h. rw (getD-set-other M (1024 + l) r 1 0 (λ e. omega arith)) (λ u. let d = m .rows r h u in record { same = d .same; marked = λ k w. grown k (d .marked k w) });
       bits = λ k b. ⊎-elim (λ y. omega (arith, y .1)) (λ y. omega (arith, y, m .bits k b)) (at k);
     };
     grows = grown;
-    adds = λ k i. rw (one-∈ i) (getD-set-same M (2048 + l) 1 0 (omega (arith, m .long)));
+    adds = λ k i. rw (one-∈ i) (getD-set-same M (1024 + l) 1 0 (omega (arith, m .long)));
     only = λ k z. ⊎-elim (λ y. inr (here (omega (arith, y .0)))) (λ y. inl (sym y ∙ z)) (at k);
   }
     where
-      at : (k : ℕ) → ((2048 + k ≡ 2048 + l) × Marked (set M (2048 + l) 1) k) ⊎ (getD (set M (2048 + l) 1) (2048 + k) 0 ≡ getD M (2048 + k) 0)
-      at k = after-set M (2048 + l) (2048 + k) 1 (omega (arith, m .long))
+      at : (k : ℕ) → ((1024 + k ≡ 1024 + l) × Marked (set M (1024 + l) 1) k) ⊎ (getD (set M (1024 + l) 1) (1024 + k) 0 ≡ getD M (1024 + k) 0)
+      at k = after-set M (1024 + l) (1024 + k) 1 (omega (arith, m .long))
 
-      grown : (k : ℕ) → Marked M k → Marked (set M (2048 + l) 1) k
+      grown : (k : ℕ) → Marked M k → Marked (set M (1024 + l) 1) k
       grown k z = ⊎-elim (λ y. y .1) (λ y. y ∙ z) (at k)
 
   -- a letter is entered, and met or not
-  letter-right : (l : ℕ) → l < 256 → (b : Bool) {M : List ℕ} → Memory F n M → Enters (Memory F n) (cond b (met l) blocked) M (cond b (came 3 (set M (2048 + l) 1)) (came 1 M))
+  letter-right : (l : ℕ) → l < 256 → (b : Bool) {M : List ℕ} → Memory F n M → Enters (Memory F n) (cond b (met l) blocked) M (cond b (came 3 (set M (1024 + l) 1)) (came 1 M))
   letter-right l h true m = record { same = refl; marks = marked-now l h m }
   letter-right l h false m = record { same = refl; marks = exactly-none m }
 
@@ -160,23 +147,8 @@ module _ (R : Table) (g : Given) (t : Tick) (n : ℕ) (coded : Coded R g t n) (N
           → Enters Good (enterRow N R r t) M (cond b (came (f r M .code) (set (f r M .memory) r (f r M .code))) (came (getD M r 0) M))
       go true e =
           let q = p M m in
-          record { same = q .same; marks = stored (rowsOf N R t) n (coded .few) true r h (f r M .code) (record { same = q .same; marked = q .marks .adds }) (q .marks) }
-      go false e = let c = m .rows true r h (eqb-false (getD M r 0) 0 e) in record { same = c .same; marks = exactly-same m (c .marked) }
-
-  answer-remembered : (f : Call) (r : ℕ) → r < n → LeaveRight f r → LeaveRight (remembered f) r
-  answer-remembered f r h p M m = rw (lt-leb 1024 r (omega (arith, coded .few))) (go (eqb (getD M (1024 + r) 0) 0) refl)
-    where
-      go : (b : Bool) → eqb (getD M (1024 + r) 0) 0 ≡ b
-          → Goes Good (leaveRow N R r t) M (cond b (told (f r M .yes) (set (f r M .memory) (1024 + r) (answerCode (f r M .yes)))) (told (eqb (getD M (1024 + r) 0) 2) M))
-      go true e =
-          let q = p M m in
-          record {
-            yes = q .yes;
-            marks = λ s. stored (rowsOf N R t) n (coded .few) false r h (answerCode (f r M .yes)) (record { same = ap answerCode (q .yes); marked = q .marks s .adds }) (q .marks s);
-          }
-      go false e =
-          let c = m .rows false r h (eqb-false (getD M (1024 + r) 0) 0 e) in
-          record { yes = rw (c .same) (told-by (found (leaveRow N R r t))); marks = λ s. exactly-same m (c .marked) }
+          record { same = q .same; marks = stored (rowsOf N R t) n (coded .few) r h (f r M .code) (record { same = q .same; marked = q .marks .adds }) (q .marks) }
+      go false e = let c = m .rows r h (eqb-false (getD M r 0) 0 e) in record { same = c .same; marks = exactly-same m (c .marked) }
 
   -- ---- one call by its row's kind, where the calls that it makes are right; a, b, c: what is known of each
 
@@ -197,18 +169,21 @@ module _ (R : Table) (g : Given) (t : Tick) (n : ℕ) (coded : Coded R g t n) (N
   enterOn-right enter is-pipe left right x c f h e M m = rw (c .0, c .1) (f (c .3) e M m)
 
   -- an operand of row u, of kind k, is left; o: it is the left one
-  leaveTo-right : (ask leave : Call) (k : Kind) (o : Bool) (left right x u r : ℕ) {a b c : Type 0} → eqb r left ≡ o → CodedAs g t n left right x k
-      → (right < n → a → AskRight ask right) → (b → LeaveRight leave u) → (c → AskRight ask u) → leavesBy k o a b c
-      → (M : List ℕ) → Good M → Goes Good (leaveBy k o (askRow N R right t) (leaveRow N R u t) (askRow N R u t)) M (leaveTo ask leave x u r M)
+  leaveTo-right : (enter : Entry) (ask leave : Call) (k : Kind) (o : Bool) (left right x u r : ℕ) {a b c : Type 0} → eqb r left ≡ o → CodedAs g t n left right x k
+      → (right < n → a → AskRight ask right) → (b → LeaveRight leave u) → (c → AskRight ask u)
+      → (k ≡ is-pipe → o ≡ true → right < n → a → EnterRight enter right × (askRow N R right t ≡ goesBy (enterRow N R right t) (some []))) → leavesBy k o a b c
+      → (M : List ℕ) → Good M → Goes Good (leaveBy k o (askRow N R right t) (leaveRow N R u t) (askRow N R u t)) M (leaveTo enter ask leave x u r M)
   unfolding leaveTo
-  leaveTo-right ask leave (is-letter l) o left right x u r d c f h i e M m = rw (c .0) (goes-not refl)
-  leaveTo-right ask leave is-seq true left right x u r d c f h i e M m = rw (c .0, c .1, c .2, eqb-sym left r, d) (f (c .4) e M m)
-  leaveTo-right ask leave is-seq false left right x u r d c f h i e M m = rw (c .0, c .1, eqb-sym left r, d) (h e M m)
-  leaveTo-right ask leave is-alt o left right x u r d c f h i e M m = rw (c .0) (h e M m)
-  leaveTo-right ask leave is-star o left right x u r d c f h i e M m = rw (c .0) (i e M m)
-  leaveTo-right ask leave is-pipe true left right x u r d c f h i e M m =
-      rw (c .0, c .1, c .2, eqb-sym left r, d) (goes-then (leaveRow N R u t) (askRow N R right t) (ask right) (h (e .0) M m) (f (c .4) (e .1)))
-  leaveTo-right ask leave is-pipe false left right x u r d c f h i e M m = rw (c .0, c .1, eqb-sym left r, d) (goes-over m)
+  leaveTo-right enter ask leave (is-letter l) o left right x u r d c f h i j e M m = rw (c .0) (goes-not refl)
+  leaveTo-right enter ask leave is-seq true left right x u r d c f h i j e M m = rw (c .0, c .1, c .2, eqb-sym left r, d) (f (c .4) e M m)
+  leaveTo-right enter ask leave is-seq false left right x u r d c f h i j e M m = rw (c .0, c .1, eqb-sym left r, d) (h e M m)
+  leaveTo-right enter ask leave is-alt o left right x u r d c f h i j e M m = rw (c .0) (h e M m)
+  leaveTo-right enter ask leave is-star o left right x u r d c f h i j e M m = rw (c .0) (i e M m)
+  leaveTo-right enter ask leave is-pipe true left right x u r d c f h i j e M m =
+      let (p, q) = j refl refl (c .4) (e .1) in
+      let s = p M m in
+      rw (c .0, c .1, c .2, eqb-sym left r, d, q) (enter-both (enterRow N R right t) (leaveRow N R u t) leave u s (h (e .0) (enter right M .memory) (s .marks .good)))
+  leaveTo-right enter ask leave is-pipe false left right x u r d c f h i j e M m = rw (c .0, c .1, eqb-sym left r, d) (goes-over m)
 
   -- ---- entering row r, k calls deep: where they are enough, it comes to what it does in the table
 
@@ -223,22 +198,44 @@ module _ (R : Table) (g : Given) (t : Tick) (n : ℕ) (coded : Coded R g t n) (N
 
   -- ---- leaving row r, where the calls that it makes are right with one call fewer; u is the row above it
 
-  module _ (ask leave : Call) (k r : ℕ) (below : r < n) (enough : suc k ≤ N) (asks : (i : ℕ) → i < n → AskEnds k R i t → AskRight ask i)
-      (leaves : (i : ℕ) → i < n → LeaveEnds k R i t → LeaveRight leave i) (e : LeaveEnds (suc k) R r t) (u : ℕ) (up : R r .up ≡ u) (above : u < n) where
+  -- of row i, which is the thread of the `@` in row u: where entering it passes, it has ended
+  thread-asked : (u i : ℕ) → R u .kind ≡ is-pipe → Under R u i → (i ≡ R u .left → ⊥) → (k : ℕ) → AskEnds k R i t → k ≤ N
+      → EnterEnds k R i × (askRow N R i t ≡ goesBy (enterRow N R i t) (some []))
+  unfolding AskEnds
+  thread-asked u i is under d zero e le = absurd e
+  thread-asked u i is under d (suc k) e le = (
+    ends-enter R k (suc k) i (e .0) (omega arith) .0,
+    ask-unfolds R i (suc k) N t e le
+        ∙ goes-same (enterRow N R i t) refl
+        (λ p. leave-unfolds R u i is-pipe is under false (ne-eqb i (R u .left) d) k N t (passes-on R i k N t e (omega arith) p) (omega arith)),
+  )
+
+  module _ (enter : Entry) (ask leave : Call) (k r : ℕ) (below : r < n) (enough : suc k ≤ N) (enters : (i : ℕ) → i < n → EnterEnds k R i → EnterRight enter i)
+      (asks : (i : ℕ) → i < n → AskEnds k R i t → AskRight ask i) (leaves : (i : ℕ) → i < n → LeaveEnds k R i t → LeaveRight leave i)
+      (e : LeaveEnds (suc k) R r t) (u : ℕ) (up : R r .up ≡ u) (above : u < n) where
+    -- an `@` whose left operand it is has a thread
+    thread-right : R u .kind ≡ is-pipe → eqb r (R u .left) ≡ true → R u .right < n → AskEnds k R (R u .right) t
+        → EnterRight enter (R u .right) × (askRow N R (R u .right) t ≡ goesBy (enterRow N R (R u .right) t) (some []))
+    thread-right is o h w =
+        let (p, q, s) = coded .rows u above .threaded is in
+        let v : R (R u .left) .up ≡ u = ap (λ i. R i .up) (sym (eqb-true r (R u .left) o)) ∙ up in
+        let (x, y) = thread-asked u (R u .right) is (p ∙ v, λ z. omega (arith, q, s, v, z)) (λ z. omega (arith, s, z)) k w (omega arith) in
+        (enters (R u .right) h x, y)
+
     -- it is an operand
-    operand-right : (r ≡ u → ⊥) → LeaveRight (leaveTo ask leave (getD (g .table) u 0) u) r
+    operand-right : (r ≡ u → ⊥) → LeaveRight (leaveTo enter ask leave (getD (g .table) u 0) u) r
     operand-right d M m =
         rw (leave-unfolds R u r (R u .kind) refl (up, d) (eqb r (R u .left)) refl (suc k) N t e enough)
-        (leaveTo-right ask leave (R u .kind) (eqb r (R u .left)) (R u .left) (R u .right) (getD (g .table) u 0) u r refl
-        (coded .rows u above .coded) (asks (R u .right)) (leaves u above) (asks u above)
+        (leaveTo-right enter ask leave (R u .kind) (eqb r (R u .left)) (R u .left) (R u .right) (getD (g .table) u 0) u r refl
+        (coded .rows u above .coded) (asks (R u .right)) (leaves u above) (asks u above) thread-right
         (leave-calls R u r (R u .kind) refl (up, d) (eqb r (R u .left)) refl k t .0 e) M m)
 
     -- or a monitor's own row
-    either-right : LeaveRight (leaveOn g ask leave u) r
+    either-right : LeaveRight (leaveOn g enter ask leave u) r
     unfolding leaveOn
     either-right M m = go (eqb u r) refl
       where
-        go : (o : Bool) → eqb u r ≡ o → Goes Good (leaveRow N R r t) M (cond o (ask r M) (cond (leb 1024 u) (told false M) (leaveTo ask leave (getD (g .table) u 0) u r M)))
+        go : (o : Bool) → eqb u r ≡ o → Goes Good (leaveRow N R r t) M (cond o (ask r M) (cond (leb 1024 u) (told false M) (leaveTo enter ask leave (getD (g .table) u 0) u r M)))
         go true z =
             let own = up ∙ eqb-true u r z in
             rw (own-unfolds R r own (suc k) N t e enough) (asks r below (own-calls R r own k t .0 e) M m)
@@ -258,8 +255,7 @@ module _ (R : Table) (g : Given) (t : Tick) (n : ℕ) (coded : Coded R g t n) (N
     -- leaving it
     pub leaves-right : (k r : ℕ) → r < n → LeaveEnds k R r t → k ≤ N → LeaveRight (leaveM k g) r
     leaves-right zero r h e le = absurd e
-    leaves-right (suc k) r h e le =
-        answer-remembered (λ q. leaveOn g (askM k g) (leaveM k g) (part3 (getD (g .table) q 0)) q) r h (λ M m.
-        rw (coded .rows r h .up)
-        (either-right (askM k g) (leaveM k g) k r h le (λ i j w. asks-right k i j w (omega arith)) (λ i j w. leaves-right k i j w (omega arith)) e (R r .up) refl
-        (coded .rows r h .up-within) M m))
+    leaves-right (suc k) r h e le = λ M m.
+        rw (lt-leb 1024 r (omega (arith, coded .few)), coded .rows r h .up)
+        (either-right (enterM k g) (askM k g) (leaveM k g) k r h le (λ i j w. enters-right k i j w (omega arith)) (λ i j w. asks-right k i j w (omega arith))
+        (λ i j w. leaves-right k i j w (omega arith)) e (R r .up) refl (coded .rows r h .up-within) M m)

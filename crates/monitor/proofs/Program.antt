@@ -27,11 +27,11 @@ use Rattle.rules.specs.declared.Watch.{Watch}
 use Rattle.monitor.specs.Letters.{Given, letterMet}
 use Rattle.monitor.specs.Ticks.{layout, within, lettersEnd}
 use Rattle.monitor.specs.Calls.{layoutOf}
-use Rattle.monitor.proofs.Coded.{Coded}
+use Rattle.monitor.proofs.Coded.{Threaded, Coded}
 use Rattle.monitor.proofs.FewMonitors.{few-monitors}
 use Rattle.monitor.proofs.Stored.{stands-at, stands-self, each-at, stored, taken, drop-replicate}
 use Rattle.monitor.proofs.Numbered.{programOf, InOrder, numbered-in-order, total-numbered, length-numbered, watch-numbered, numbers-below}
-use Rattle.monitor.proofs.RowWords.{wordOf, RowFits, Tested, words-laid, words-long, row-word, all-fit, row-coded}
+use Rattle.monitor.proofs.RowWords.{wordOf, RowFits, Tested, words-laid, words-long, row-word, all-fit, all-threaded, row-coded}
 use Rattle.monitor.proofs.LetterIndex.{LetterStands, all-letters}
 use Rattle.monitor.proofs.LetterRows.{rowsOfLetters, kinds, kinds-kept, HeldAll, all-letters-laid, rows-of-letters-long, all-rows-low, all-held}
 
@@ -160,7 +160,13 @@ module _ (o : Opened) (c : Counted o) where
     rows = λ r h.
         let fits = rows-right (Tested g t) (λ m i x j. (omega (arith, numbers-low m i x j, c .few-letters), met m i x j)) r h in
         let (a, b) = row-coded g t (o .rowCount) (getD (g .table) r 0) (omega (arith, c .few-rows)) (tableOf o r) (ap (λ (T : List ℕ). getD T r 0) e ∙ words-right r h) fits in
-        record { coded = a; up = b; up-within = fits .up-low };
+        record {
+          coded = a;
+          up = b;
+          up-within = fits .up-low;
+          threaded = each-at (Threaded (tableOf o)) noRow (laidAll 0 (programOf o)) r (omega (arith, rows-no-more 0 (programOf o), program-rows))
+              (all-threaded (tableOf o) 0 (programOf o) (stands-self noRow (laidAll 0 (programOf o))));
+        };
   }
 
   -- Each letter's numbers stand at its own.

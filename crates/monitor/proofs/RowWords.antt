@@ -8,10 +8,10 @@ use lib.ListN.{length, length-map, getD}
 use Rattle.meaning.specs.Lists.{_∈_, total}
 use Rattle.meaning.specs.Expression.{Letter, Exp, letter, seq, alt, star, pipe, letters, size, rows}
 use Rattle.meaning.specs.Fit.{Tick, meets}
-use Rattle.meaning.specs.Table.{Kind, is-letter, is-seq, is-alt, is-star, is-pipe, Row, row, laid, laidAll, noRow, asTable}
-use Rattle.meaning.proofs.ListLaws.{here, there, ∈-left, ∈-right}
+use Rattle.meaning.specs.Table.{Kind, is-letter, is-seq, is-alt, is-star, is-pipe, Row, row, Table, laid, laidAll, noRow, asTable}
+use Rattle.meaning.proofs.ListLaws.{here, there, clash, ∈-left, ∈-right}
 use Rattle.meaning.proofs.Walk.{a-row}
-use Rattle.meaning.proofs.Rows.{rows-no-more}
+use Rattle.meaning.proofs.Rows.{Stands, laid-length, rows-no-more}
 use Rattle.meaning.proofs.Within.{Each}
 use Rattle.words.specs.Words.{quad, part0, part1, part2, part3}
 use Rattle.rules.specs.Laying.{kindCode, leftCode, codeOf, rowWord}
@@ -20,8 +20,8 @@ use Rattle.rules.specs.Watches.{noLists}
 use Rattle.words.proofs.Quads.{quad-0, quad-1, quad-2, quad-3}
 use Rattle.rules.proofs.TableRows.{codes-laid}
 use Rattle.monitor.specs.Letters.{Given, letterMet}
-use Rattle.monitor.proofs.Coded.{CodedAs}
-use Rattle.monitor.proofs.Stored.{each-append, map-at, stored-at}
+use Rattle.monitor.proofs.Coded.{CodedAs, Threaded}
+use Rattle.monitor.proofs.Stored.{front, rear, each-append, map-at, stored-at}
 use Rattle.monitor.proofs.Numbered.{InOrder}
 
 -- ---- the rows' words
@@ -97,6 +97,42 @@ module _ (Q : Letter → Type 0) (n : ℕ) where
   all-fit r (m ∷ ms) h q =
       each-append RowFits (laid r r m) (laidAll (r + rows m) ms) (laid-fits r r m (omega (arith, a-row m)) (omega arith) (q m (here refl)))
       (all-fit (r + rows m) ms (omega arith) (λ x i. q x (there i)))
+
+-- ---- what stands under an `@`
+
+module _ (R : Table) where
+  laid-up : (r up : ℕ) (e : Exp) → Stands R r (laid r up e) → R r .up ≡ up
+  unfolding laid
+  laid-up r up (letter l) s = ap (λ x. x .up) (s .0)
+  laid-up r up (seq e f) s = ap (λ x. x .up) (s .0)
+  laid-up r up (alt e f) s = ap (λ x. x .up) (s .0)
+  laid-up r up (star e) s = ap (λ x. x .up) (s .0)
+  laid-up r up (pipe e f) s = ap (λ x. x .up) (s .0)
+
+  two-threaded : (κ : Kind) (r up : ℕ) (e f : Exp) → Stands R (suc r) (laid (suc r) r e ++ laid (suc r + rows e) r f)
+      → (Stands R (suc r) (laid (suc r) r e) → Each (Threaded R) (laid (suc r) r e))
+      → (Stands R (suc r + rows e) (laid (suc r + rows e) r f) → Each (Threaded R) (laid (suc r + rows e) r f))
+      → Each (Threaded R) (row κ (suc r) (suc r + rows e) up ∷ (laid (suc r) r e ++ laid (suc r + rows e) r f))
+  two-threaded κ r up e f s p q =
+      let a = front R (suc r) (laid (suc r) r e) (laid (suc r + rows e) r f) s in
+      let b = rear R (suc r) (suc r + rows e) (laid (suc r) r e) (laid (suc r + rows e) r f) (omega (arith, laid-length (suc r) r e)) s in
+      let c = laid-up (suc r) r e a in
+      (λ k. (laid-up (suc r + rows e) r f b ∙ sym c, omega (arith, c), omega (arith, a-row e)), each-append (Threaded R) (laid (suc r) r e) (laid (suc r + rows e) r f) (p a) (q b))
+
+  laid-threaded : (r up : ℕ) (e : Exp) → Stands R r (laid r up e) → Each (Threaded R) (laid r up e)
+  unfolding laid
+  laid-threaded r up (letter l) s = (λ k. clash (cc k), tt)
+  laid-threaded r up (seq e f) s = two-threaded is-seq r up e f (s .1) (laid-threaded (suc r) r e) (laid-threaded (suc r + rows e) r f)
+  laid-threaded r up (alt e f) s = two-threaded is-alt r up e f (s .1) (laid-threaded (suc r) r e) (laid-threaded (suc r + rows e) r f)
+  laid-threaded r up (star e) s = (λ k. clash (cc k), laid-threaded (suc r) r e (s .1))
+  laid-threaded r up (pipe e f) s = two-threaded is-pipe r up e f (s .1) (laid-threaded (suc r) r e) (laid-threaded (suc r + rows e) r f)
+
+  pub all-threaded : (r : ℕ) (ms : List Exp) → Stands R r (laidAll r ms) → Each (Threaded R) (laidAll r ms)
+  unfolding laidAll
+  all-threaded r [] s = tt
+  all-threaded r (m ∷ ms) s =
+      each-append (Threaded R) (laid r r m) (laidAll (r + rows m) ms) (laid-threaded r r m (front R r (laid r r m) (laidAll (r + rows m) ms) s))
+      (all-threaded (r + rows m) ms (rear R r (r + rows m) (laid r r m) (laidAll (r + rows m) ms) (omega (arith, laid-length r r m)) s))
 
 -- ---- a tick's rows
 

@@ -14,8 +14,8 @@ use Rattle.meaning.specs.Fit.{ok as clean, bad as broken}
 use Rattle.meaning.specs.Calls.{Reply, refused, isStray, isFull, reply, after, replyOf as verdictReply}
 use Rattle.rules.proofs.Starting.{values-more}
 use Rattle.monitor.specs.Letters.{Given, writeLetter}
-use Rattle.monitor.specs.Walk.{Told, told, andThen, askM, leaveM}
-use Rattle.monitor.specs.Ticks.{steps, Layout, layout, letterGoes, lettersGo, startGoes, lettersEnd, monitorGoes, Reached, reached, reachedBy, monitorsGo, marksAfter, writeIf, writeMarked, Move, move, emptyMemory, moveBy, stepWithin, verdictOf}
+use Rattle.monitor.specs.Walk.{Told, told, askM, leaveM}
+use Rattle.monitor.specs.Ticks.{steps, Layout, layout, andThen, letterGoes, lettersGo, startGoes, lettersEnd, monitorGoes, Reached, reached, reachedBy, monitorsGo, marksAfter, writeIf, writeMarked, Move, move, emptyMemory, moveBy, stepWithin, verdictOf}
 use Rattle.rules.specs.declared.Watch.{Watch}
 use Rattle.monitor.specs.Calls.{withState, refusedBy, stateOf, judge, onward, stepFrom, layoutOf, replyOf, watchAfter}
 use Rattle.monitor.specs.Shown.{shownAnswer}
@@ -30,8 +30,8 @@ unstored [] L j i h = refl
 unstored (x ∷ vs) L j i h = unstored vs (set L j x) (suc j) i (omega arith) ∙ getD-set-other L j i x 0 (λ (e : i ≡ j). omega arith)
 
 -- one more letter's mark; past the memory's end that is 0, as the new marks are
-mark-more : (M : List ℕ) (i : ℕ) → i < 288 → set (marksAfter i M) i (getD M (2048 + i) 0) ≡ marksAfter (i + 1) M
-mark-more M i l = ap (λ (x : ℕ). set (marksAfter i M) i x) (sym (getD-drop 2048 M i 0)) ∙ by (drop 2048 M) (ltb i (length (drop 2048 M))) refl
+mark-more : (M : List ℕ) (i : ℕ) → i < 288 → set (marksAfter i M) i (getD M (1024 + i) 0) ≡ marksAfter (i + 1) M
+mark-more M i l = ap (λ (x : ℕ). set (marksAfter i M) i x) (sym (getD-drop 1024 M i 0)) ∙ by (drop 1024 M) (ltb i (length (drop 1024 M))) refl
   where
     by : (W : List ℕ) (b : Bool) → ltb i (length W) ≡ b → set (sets (replicate 288 0) 0 (take i W)) i (getD W i 0) ≡ sets (replicate 288 0) 0 (take (i + 1) W)
     by W true e = values-more (replicate 288 0) W i (ltb-true i (length W) e)
@@ -42,9 +42,9 @@ mark-more M i l = ap (λ (x : ℕ). set (marksAfter i M) i x) (sym (getD-drop 20
         ∙ set-getD (sets (replicate 288 0) 0 W) i 0 ∙ ap (sets (replicate 288 0) 0) (sym (take-all (i + 1) W (omega (arith, h))))
 
 pub marks-next : (M K : List ℕ) (i n : ℕ) → n ≤ 256 → i < n → length K ≡ 288 → K ≡ marksAfter i M
-    → (i + 1 ≤ n) × (length (set K i (getD M (2048 + i) 0)) ≡ 288) × (set K i (getD M (2048 + i) 0) ≡ marksAfter (i + 1) M)
+    → (i + 1 ≤ n) × (length (set K i (getD M (1024 + i) 0)) ≡ 288) × (set K i (getD M (1024 + i) 0) ≡ marksAfter (i + 1) M)
 marks-next M K i n l j s e =
-    (omega arith, length-set K i (getD M (2048 + i) 0) ∙ s, ap (λ (u : List ℕ). set u i (getD M (2048 + i) 0)) e ∙ mark-more M i (omega arith))
+    (omega arith, length-set K i (getD M (1024 + i) 0) ∙ s, ap (λ (u : List ℕ). set u i (getD M (1024 + i) 0)) e ∙ mark-more M i (omega arith))
 
 pub marks-end : (M K : List ℕ) (i n : ℕ) → K ≡ marksAfter i M → i ≡ n → K ≡ marksAfter n M
 marks-end M K i n e q = e ∙ ap (λ (m : ℕ). marksAfter m M) q

@@ -9,7 +9,7 @@ use lib.Dec.{eqb}
 use lib.ListN.{getD, set}
 use Rattle.words.specs.Words.{part0, part1, part2, part3}
 use Rattle.monitor.specs.Letters.{Given, letterMet}
-use Rattle.monitor.specs.Walk.{Came, came, Told, told, Entry, Call, enterLetter, enterSecond, enterOn, enterM, both, leaveTo, leaveOn, askM, leaveM}
+use Rattle.monitor.specs.Walk.{Came, came, Told, told, Entry, Call, enterLetter, enterSecond, enterOn, enterM, leaveTo, leaveOn, askM, leaveM}
 
 -- ---- a letter is entered
 
@@ -21,7 +21,7 @@ module _ (g : Given) (l : ℕ) (M : List ℕ) where
     pub letter-unmet : not m ≡ true → came 1 M ≡ enterLetter g l M
     letter-unmet n = rw (lt-leb 256 l h, ← e, not-true m n)
 
-    pub letter-marked : not m ≡ false → came 3 (set M (2048 + l) 1) ≡ enterLetter g l M
+    pub letter-marked : not m ≡ false → came 3 (set M (1024 + l) 1) ≡ enterLetter g l M
     letter-marked n = rw (lt-leb 256 l h, ← e, not-false m n)
 
 -- ---- a row, with a count
@@ -60,19 +60,20 @@ module _ (n : ℕ) (g : Given) (r : ℕ) (M : List ℕ) where
       unfolding enterM
       enter-found e k N p = rw (one-less n z, lt-leb 1024 r h, e, ← p)
 
-      pub leave-known : (getD M (1024 + r) 0 ≡ 0 → ⊥) → told (eqb (getD M (1024 + r) 0) 2) M ≡ leaveM n g r M
-      unfolding leaveM
-      leave-known e = rw (one-less n z, lt-leb 1024 r h, ne-eqb (getD M (1024 + r) 0) 0 e)
+      -- u is the row above
+      module _ (u : ℕ) (d : u ≡ part3 (getD (g .table) r 0)) where
+        pub leave-own : u ≡ r → (a : Told) → a ≡ askM (n - 1) g r M → a ≡ leaveM n g r M
+        unfolding leaveM leaveOn
+        leave-own e a p = rw (one-less n z, lt-leb 1024 r h, ← d, eq-eqb u r e) p
 
-      module _ (e : getD M (1024 + r) 0 ≡ 0) (u : ℕ) (d : u ≡ part3 (getD (g .table) r 0)) (y : Bool) (N : List ℕ)
-          (p : told y N ≡ leaveOn g (askM (n - 1) g) (leaveM (n - 1) g) u r M) where
-        pub leave-no : not y ≡ true → told false (set N (1024 + r) 1) ≡ leaveM n g r M
-        unfolding leaveM
-        leave-no o = rw (one-less n z, lt-leb 1024 r h, e, ← d, ← p, not-true y o)
+        module _ (y : u ≡ r → ⊥) where
+          pub leave-lost : 1024 ≤ u → told false M ≡ leaveM n g r M
+          unfolding leaveM leaveOn
+          leave-lost f = rw (one-less n z, lt-leb 1024 r h, ← d, ne-eqb u r y, le-leb 1024 u f)
 
-        pub leave-yes : not y ≡ false → told true (set N (1024 + r) 2) ≡ leaveM n g r M
-        unfolding leaveM
-        leave-yes o = rw (one-less n z, lt-leb 1024 r h, e, ← d, ← p, not-false y o)
+          pub leave-up : u < 1024 → (a : Told) → a ≡ leaveTo (enterM (n - 1) g) (askM (n - 1) g) (leaveM (n - 1) g) (getD (g .table) u 0) u r M → a ≡ leaveM n g r M
+          unfolding leaveM leaveOn
+          leave-up f a p = rw (one-less n z, lt-leb 1024 r h, ← d, ne-eqb u r y, lt-leb 1024 u f) p
 
     module _ (k : ℕ) (N : List ℕ) (e : came k N ≡ enterM (n - 1) g r M) where
       pub ask-met : k ≡ 3 → told true N ≡ askM n g r M
@@ -131,54 +132,38 @@ module _ (enter : Entry) (x f : ℕ) (M : List ℕ) (k : ℕ) (q : k ≡ part0 x
 
 -- ---- the row above, when a row is left
 
-module _ (ask leave : Call) (u thread : ℕ) (M : List ℕ) (y : Bool) (N : List ℕ) (e : told y N ≡ leave u M) where
-  pub no-way-on : not y ≡ true → told false N ≡ both ask leave u thread M
-  no-way-on n = rw (← e, not-true y n)
-
-  pub both-go : not y ≡ false → (a : Told) → a ≡ ask thread N → a ≡ both ask leave u thread M
-  both-go n a p = rw (← e, not-false y n) p
-
-module _ (ask leave : Call) (x u r : ℕ) (M : List ℕ) (k : ℕ) (q : k ≡ part0 x) where
-  pub to-alternative : k ≡ 2 → (a : Told) → a ≡ leave u M → a ≡ leaveTo ask leave x u r M
+module _ (enter : Entry) (ask leave : Call) (x u r : ℕ) (M : List ℕ) (k : ℕ) (q : k ≡ part0 x) where
+  pub to-alternative : k ≡ 2 → (a : Told) → a ≡ leave u M → a ≡ leaveTo enter ask leave x u r M
   unfolding leaveTo
   to-alternative h a p = rw (← q, h) p
 
-  pub to-star : k ≡ 3 → (a : Told) → a ≡ ask u M → a ≡ leaveTo ask leave x u r M
+  pub to-star : k ≡ 3 → (a : Told) → a ≡ ask u M → a ≡ leaveTo enter ask leave x u r M
   unfolding leaveTo
   to-star h a p = rw (← q, h) p
 
-  pub to-none : (k ≡ 1 → ⊥) → (k ≡ 2 → ⊥) → (k ≡ 3 → ⊥) → (k ≡ 4 → ⊥) → told false M ≡ leaveTo ask leave x u r M
+  pub to-none : (k ≡ 1 → ⊥) → (k ≡ 2 → ⊥) → (k ≡ 3 → ⊥) → (k ≡ 4 → ⊥) → told false M ≡ leaveTo enter ask leave x u r M
   unfolding leaveTo
   to-none z m o t = rw (← q, ne-eqb k 1 z, ne-eqb k 2 m, ne-eqb k 3 o, ne-eqb k 4 t)
 
   module _ (b : ℕ) (d : b ≡ part1 x) where
-    pub to-end : k ≡ 1 → (b ≡ r → ⊥) → (a : Told) → a ≡ leave u M → a ≡ leaveTo ask leave x u r M
+    pub to-end : k ≡ 1 → (b ≡ r → ⊥) → (a : Told) → a ≡ leave u M → a ≡ leaveTo enter ask leave x u r M
     unfolding leaveTo
     to-end h t a p = rw (← q, h, ← d, ne-eqb b r t) p
 
-    pub to-ended : k ≡ 4 → (b ≡ r → ⊥) → told true M ≡ leaveTo ask leave x u r M
+    pub to-ended : k ≡ 4 → (b ≡ r → ⊥) → told true M ≡ leaveTo enter ask leave x u r M
     unfolding leaveTo
     to-ended h t = rw (← q, h, ← d, ne-eqb b r t)
 
-    module _ (t : b ≡ r) (i : ℕ) (j : i ≡ part2 x) (a : Told) where
-      pub to-right : k ≡ 1 → a ≡ ask i M → a ≡ leaveTo ask leave x u r M
+    module _ (t : b ≡ r) (i : ℕ) (j : i ≡ part2 x) where
+      pub to-right : k ≡ 1 → (a : Told) → a ≡ ask i M → a ≡ leaveTo enter ask leave x u r M
       unfolding leaveTo
-      to-right h p = rw (← q, h, ← d, eq-eqb b r t, ← j) p
+      to-right h a p = rw (← q, h, ← d, eq-eqb b r t, ← j) p
 
-      pub to-fork : k ≡ 4 → a ≡ both ask leave u i M → a ≡ leaveTo ask leave x u r M
-      unfolding leaveTo
-      to-fork h p = rw (← q, h, ← d, eq-eqb b r t, ← j) p
+      module _ (h : k ≡ 4) (c : ℕ) (N : List ℕ) (e : came c N ≡ enter i M) where
+        pub thread-blocked : c ≡ 1 → told false N ≡ leaveTo enter ask leave x u r M
+        unfolding leaveTo
+        thread-blocked s = rw (← q, h, ← d, eq-eqb b r t, ← j, ← e, s)
 
-module _ (g : Given) (ask leave : Call) (u r : ℕ) (M : List ℕ) where
-  pub own-row : u ≡ r → (a : Told) → a ≡ ask r M → a ≡ leaveOn g ask leave u r M
-  unfolding leaveOn
-  own-row h a p = rw (eq-eqb u r h) p
-
-  module _ (z : u ≡ r → ⊥) where
-    pub above-far : 1024 ≤ u → told false M ≡ leaveOn g ask leave u r M
-    unfolding leaveOn
-    above-far h = rw (ne-eqb u r z, le-leb 1024 u h)
-
-    pub above-row : u < 1024 → (a : Told) → a ≡ leaveTo ask leave (getD (g .table) u 0) u r M → a ≡ leaveOn g ask leave u r M
-    unfolding leaveOn
-    above-row h a p = rw (ne-eqb u r z, lt-leb 1024 u h) p
+        pub thread-starts : (c ≡ 1 → ⊥) → (a : Told) → a ≡ leave u N → a ≡ leaveTo enter ask leave x u r M
+        unfolding leaveTo
+        thread-starts s a p = rw (← q, h, ← d, eq-eqb b r t, ← j, ← e, ne-eqb c 1 s) p

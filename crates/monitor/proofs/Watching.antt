@@ -48,28 +48,28 @@ all-inside i l K (m ∷ ms) (x ∷ xs) t nss h o e =
 
 -- ---- the marks after a tick
 
-module _ (n : ℕ) (M : List ℕ) (few : n ≤ 256) (long : length M ≡ 2304) where
-  marked-long : length (take n (drop 2048 M)) ≡ n
-  marked-long = length-take-le n (drop 2048 M) (let d = length-drop 2048 M in omega (arith, d, long, few))
+module _ (n : ℕ) (M : List ℕ) (few : n ≤ 256) (long : length M ≡ 1280) where
+  marked-long : length (take n (drop 1024 M)) ≡ n
+  marked-long = length-take-le n (drop 1024 M) (let d = length-drop 1024 M in omega (arith, d, long, few))
 
-  as-list : marksAfter n M ≡ take n (drop 2048 M) ++ drop n (replicate 288 0)
+  as-list : marksAfter n M ≡ take n (drop 1024 M) ++ drop n (replicate 288 0)
   as-list =
       let z = length-replicate {A = ℕ} 288 0 in
       let l = marked-long in
-      let e : 0 + length (take n (drop 2048 M)) ≡ n = omega (arith, l) in
-      sets-eq (take n (drop 2048 M)) (replicate 288 0) 0 (omega (arith, l, z, few)) ∙ ap (λ (k : ℕ). take n (drop 2048 M) ++ drop k (replicate 288 0)) e
+      let e : 0 + length (take n (drop 1024 M)) ≡ n = omega (arith, l) in
+      sets-eq (take n (drop 1024 M)) (replicate 288 0) 0 (omega (arith, l, z, few)) ∙ ap (λ (k : ℕ). take n (drop 1024 M) ++ drop k (replicate 288 0)) e
 
-  after-at : (k : ℕ) → k < n → getD (marksAfter n M) k 0 ≡ getD M (2048 + k) 0
+  after-at : (k : ℕ) → k < n → getD (marksAfter n M) k 0 ≡ getD M (1024 + k) 0
   after-at k c =
       let l = marked-long in
-      ap (λ (z : List ℕ). getD z k 0) as-list ∙ List·getD-append (take n (drop 2048 M)) (drop n (replicate 288 0)) 0 k (omega (arith, l, c))
-      ∙ getD-take n (drop 2048 M) k 0 c ∙ getD-drop 2048 M k 0
+      ap (λ (z : List ℕ). getD z k 0) as-list ∙ List·getD-append (take n (drop 1024 M)) (drop n (replicate 288 0)) 0 k (omega (arith, l, c))
+      ∙ getD-take n (drop 1024 M) k 0 c ∙ getD-drop 1024 M k 0
 
   after-beyond : (k : ℕ) → n ≤ k → getD (marksAfter n M) k 0 ≡ 0
   after-beyond k c =
       let l = marked-long in
-      let e : k ≡ length (take n (drop 2048 M)) + (k - n) = omega (arith, l, c) in
-      ap₂ (λ (z : List ℕ) (q : ℕ). getD z q 0) as-list e ∙ getD-append-add (take n (drop 2048 M)) (drop n (replicate 288 0)) (k - n) 0
+      let e : k ≡ length (take n (drop 1024 M)) + (k - n) = omega (arith, l, c) in
+      ap₂ (λ (z : List ℕ) (q : ℕ). getD z q 0) as-list e ∙ getD-append-add (take n (drop 1024 M)) (drop n (replicate 288 0)) (k - n) 0
       ∙ getD-drop n (replicate 288 0) (k - n) 0 ∙ zeros-at 288 (n + (k - n))
 
 zero-or : (v : ℕ) → v ≤ 1 → (v ≡ 1 → ⊥) → v ≡ 0
@@ -85,7 +85,7 @@ pub record Steps (ms : List Exp) (t : Tick) (σ : List ℕ) (pad : List ℕ → 
   pub goes : (nss : List (List ℕ)) → a ≡ fine nss
       → (z .monitor ≡ length ms) × MarksAll (z .marks) 0 0 ms (keptEach ms nss) × (z .values ≡ pad (writeEach t ms nss σ)) × (length (writeEach t ms nss σ) ≡ stores)
 
-module _ (Good : List ℕ → Type 0) (long : (M : List ℕ) → Good M → length M ≡ 2304) (bits : (M : List ℕ) → Good M → (l : ℕ) → l < 256 → getD M (2048 + l) 0 ≤ 1)
+module _ (Good : List ℕ → Type 0) (long : (M : List ℕ) → Good M → length M ≡ 1280) (bits : (M : List ℕ) → Good M → (l : ℕ) → l < 256 → getD M (1024 + l) 0 ≤ 1)
     (empty : Good emptyMemory) (g : Given) (t : Tick) (y : Layout) (K : List ℕ) (ms : List Exp) (ordered : (m : Exp) → m ∈ ms → Ordered 0 m)
     (monitors : y .monitors ≡ length ms) (few-monitors : length ms ≤ 32) (letters : y .letters ≡ total size ms) (few-letters : total size ms ≤ 256) where
   -- the marks in a memory, letter by letter
@@ -93,11 +93,11 @@ module _ (Good : List ℕ → Type 0) (long : (M : List ℕ) → Good M → leng
       → eqb (getD (marksAfter (total size ms) M) k 0) 0 ≡ not (member k ks)
   marked-if M ks x k c = ap (λ (z : ℕ). eqb z 0) (after-at (total size ms) M few-letters (long M (x .good)) k c) ∙ by (member k ks) refl
     where
-      by : (b : Bool) → member k ks ≡ b → eqb (getD M (2048 + k) 0) 0 ≡ not b
-      by true e = ne-eqb (getD M (2048 + k) 0) 0 (λ z. let p = x .adds k (from-member k ks (subst T (sym e) tt)) in absurd (omega (arith, p, z)))
+      by : (b : Bool) → member k ks ≡ b → eqb (getD M (1024 + k) 0) 0 ≡ not b
+      by true e = ne-eqb (getD M (1024 + k) 0) 0 (λ z. let p = x .adds k (from-member k ks (subst T (sym e) tt)) in absurd (omega (arith, p, z)))
       by false e =
-          eq-eqb (getD M (2048 + k) 0) 0
-          (zero-or (getD M (2048 + k) 0) (bits M (x .good) k (omega (arith, c, few-letters)))
+          eq-eqb (getD M (1024 + k) 0) 0
+          (zero-or (getD M (1024 + k) 0) (bits M (x .good) k (omega (arith, c, few-letters)))
           (λ p. ⊎-elim (empty-unmarked k) (λ q. subst T e (to-member k ks q)) (x .only k p)))
 
   module _ (xs : List Positions) (σ : List ℕ) (pad : List ℕ → List ℕ) (stores : ℕ) (marked : MarksAll K 0 0 ms xs) (long-values : length σ ≡ stores) (padded : g .values ≡ pad σ)

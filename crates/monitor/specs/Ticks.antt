@@ -7,7 +7,7 @@ use lib.ListN.{getD, take, drop, replicate}
 use lib.Seq.{sets}
 use Rattle.meaning.specs.Fit.{Verdict, ok, bad}
 use Rattle.monitor.specs.Letters.{Given, writeLetter}
-use Rattle.monitor.specs.Walk.{Told, told, andThen, askM, leaveM}
+use Rattle.monitor.specs.Walk.{Told, told, askM, leaveM}
 
 -- 4 calls for each row are enough
 abbrev pub steps : ℕ
@@ -29,6 +29,10 @@ abbrev pub within : Layout → Layout
 within y = layout (y .places) (y .own) (y .firsts) (min (y .monitors) 32) (min (y .letters) 256)
 
 -- ---- every active position goes on
+
+-- the one, and where it says yes the other
+abbrev pub andThen : Told → (List ℕ → Told) → Told
+andThen a f = cond (a .yes) (f (a .memory)) a
 
 -- letter l is left, if it is marked
 abbrev pub letterGoes : Given → (places marks : List ℕ) → (l : ℕ) → List ℕ → Told
@@ -72,7 +76,7 @@ monitorsGo g y marks (suc n) i M = reachedBy i (monitorGoes g y marks i M) (moni
 
 -- W7: "the set of its letters met at the last tick": of the first n letters those marked in the memory, and no monitor is at its start
 abbrev pub marksAfter : (n : ℕ) → (memory : List ℕ) → List ℕ
-marksAfter n M = sets (replicate 288 0) 0 (take n (drop 2048 M))
+marksAfter n M = sets (replicate 288 0) 0 (take n (drop 1024 M))
 
 -- the writes of letter l, if it is marked
 abbrev pub writeIf : Given → (marks : List ℕ) → (l : ℕ) → List ℕ → List ℕ
@@ -96,7 +100,7 @@ move i marks values = record { monitor = i; marks = marks; values = values }
 
 -- nothing is known, nothing is marked
 abbrev pub emptyMemory : List ℕ
-emptyMemory = replicate 2304 0
+emptyMemory = replicate 1280 0
 
 abbrev pub moveBy : Given → Layout → (marks : List ℕ) → Reached → Move
 moveBy g y marks a =

@@ -1,4 +1,5 @@
--- The walk over rows, with answers remembered for one tick: asking a row and leaving a row take turns until letters are reached (docs/REFERENCE.md, F6 to F10).
+-- The walk over rows, with what entering each came to remembered for one tick: asking a row and leaving a row take turns until letters are reached (docs/REFERENCE.md, F6 to
+-- F10). Leaving a row never forks, so the rows asked and left from one position are a line.
 -- Over any rows: a row that is not there answers no, and so does a walk that is deeper than its count. Assumes nothing.
 use mathlib.Core.Bool.{Bool, true, false, cond}
 use mathlib.Core.List.{List}
@@ -9,7 +10,7 @@ use Rattle.words.specs.Words.{part0, part1, part2, part3}
 use Rattle.monitor.specs.Letters.{Given, letterMet}
 
 -- The memory has, at r, what entering row r came to: 0 not known, 1 blocked, 2 passed (no letter was met, and the row can be left at once), 3 a letter was met,
--- and is marked. At 1024 + r it has what leaving row r answered: 0 not known, 1 no, 2 yes. At 2048 + l it has whether letter l is marked.
+-- and is marked. At 1024 + l it has whether letter l is marked.
 
 -- what entering a row came to, and the memory after it
 pub record Came : Type 0 where
@@ -37,7 +38,7 @@ Call = (row : ℕ) → List ℕ → Told
 
 -- a letter is met, and marked, or not
 abbrev pub enterLetter : Given → (letter : ℕ) → List ℕ → Came
-enterLetter g l M = cond (leb 256 l) (came 1 M) (cond (letterMet g l) (came 3 (set M (2048 + l) 1)) (came 1 M))
+enterLetter g l M = cond (leb 256 l) (came 1 M) (cond (letterMet g l) (came 3 (set M (1024 + l) 1)) (came 1 M))
 
 -- F9: of a star, whose body came to a
 abbrev pub orPassCode : (a : ℕ) → ℕ
@@ -76,39 +77,24 @@ enterM (suc n) g r M = rememberedEntry (λ q. enterOn g (λ a b. enterM n g a b)
 abbrev pub askFrom : (leave : Call) → (r : ℕ) → Came → Told
 askFrom leave r a = cond (eqb (a .code) 3) (told true (a .memory)) (cond (eqb (a .code) 2) (leave r (a .memory)) (told false (a .memory)))
 
--- the one, and where it says yes the other
-abbrev pub andThen : Told → (List ℕ → Told) → Told
-andThen a f = cond (a .yes) (f (a .memory)) a
+-- The left operand of an `@`, whose row is u, is left: its thread is entered, which came to a, and the `@` is left. A thread that passed has ended, so it is not
+-- left. Where either says no, the tick is bad, and marks are of no use.
+abbrev pub both : (leave : Call) → (u : ℕ) → (a : Came) → Told
+both leave u a = cond (eqb (a .code) 1) (told false (a .memory)) (leave u (a .memory))
 
--- F10: the left operand of an `@`, whose row is u, is left: the `@` is left, and its thread asked. Where either says no, the tick is bad, and marks are of no use.
-abbrev pub both : (ask leave : Call) → (u thread : ℕ) → List ℕ → Told
-both ask leave u thread M = andThen (leave u M) (ask thread)
-
--- by the row above, whose number is u and whose word is x: a `,` goes on with its right operand, or is left; `||` is left; a star is asked again; an `@` forks,
--- or its thread has ended
-unfoldable pub leaveTo : (ask leave : Call) → (x u : ℕ) → Call
-leaveTo ask leave x u r M =
+-- by the row above, whose number is u and whose word is x: a `,` goes on with its right operand, or is left; `||` is left; a star is asked again; an `@` starts
+-- its thread and is left (F10), or its thread has ended
+unfoldable pub leaveTo : (enter : Entry) → (ask leave : Call) → (x u : ℕ) → Call
+leaveTo enter ask leave x u r M =
     cond (eqb (part0 x) 1) (cond (eqb (part1 x) r) (ask (part2 x) M) (leave u M))
     (cond (eqb (part0 x) 2) (leave u M)
     (cond (eqb (part0 x) 3) (ask u M)
-    (cond (eqb (part0 x) 4) (cond (eqb (part1 x) r) (both ask leave u (part2 x) M) (told true M))
+    (cond (eqb (part0 x) 4) (cond (eqb (part1 x) r) (both leave u (enter (part2 x) M)) (told true M))
     (told false M))))
 
 -- u is the row above; a monitor's own row points at itself, and is asked again (F13)
-unfoldable pub leaveOn : Given → (ask leave : Call) → (u : ℕ) → Call
-leaveOn g ask leave u r M = cond (eqb u r) (ask r M) (cond (leb 1024 u) (told false M) (leaveTo ask leave (getD (g .table) u 0) u r M))
-
-abbrev pub answerCode : (yes : Bool) → ℕ
-answerCode y = cond y 2 1
-
--- kept for row r
-abbrev pub keptAnswer : (r : ℕ) → Told → Told
-keptAnswer r a = told (a .yes) (set (a .memory) (1024 + r) (answerCode (a .yes)))
-
--- what is kept, or else what f answers
-abbrev pub remembered : Call → Call
-remembered f r M =
-    cond (leb 1024 r) (told false M) (cond (eqb (getD M (1024 + r) 0) 0) (keptAnswer r (f r M)) (told (eqb (getD M (1024 + r) 0) 2) M))
+unfoldable pub leaveOn : Given → (enter : Entry) → (ask leave : Call) → (u : ℕ) → Call
+leaveOn g enter ask leave u r M = cond (eqb u r) (ask r M) (cond (leb 1024 u) (told false M) (leaveTo enter ask leave (getD (g .table) u 0) u r M))
 
 -- the two, with a falling count
 unfoldable mutual
@@ -118,4 +104,6 @@ unfoldable mutual
 
   pub leaveM : ℕ → Given → Call
   leaveM zero g r M = told false M
-  leaveM (suc n) g r M = remembered (λ q. leaveOn g (λ a b. askM n g a b) (λ a b. leaveM n g a b) (part3 (getD (g .table) q 0)) q) r M
+  leaveM (suc n) g r M =
+      cond (leb 1024 r) (told false M)
+      (leaveOn g (λ a b. enterM n g a b) (λ a b. askM n g a b) (λ a b. leaveM n g a b) (part3 (getD (g .table) r 0)) r M)

@@ -21,14 +21,14 @@ ghost use Rattle.monitor.specs.Shown.{shownAnswer};
 // ---- what a good tick leaves
 
 // The new marks: the letters marked in the memory.
-fn marks_after(memory: &[u8; 2304], letters: usize) -> [u8; 288]
+fn marks_after(memory: &[u8; 1280], letters: usize) -> [u8; 288]
     requires { ⌜ letters ≤ 256 ⌝ }
     ensures { λ r. ⌜ r ≡ marksAfter letters (now (memory .entry)) ⌝ }
 {
     let mut marks = [0u8; 288];
     let mut i: usize = 0;
     while i < letters {
-        marks[i] = memory[2048 + i];
+        marks[i] = memory[1024 + i];
         i += 1;
     }
     marks
@@ -100,7 +100,7 @@ pub fn step<'a>(
 {
     let count = least(monitors, 32);
     let end = least(letters, 256);
-    let mut memory = [0u8; 2304];
+    let mut memory = [0u8; 1280];
     let monitor = monitors_go(
         count,
         end,

@@ -1,6 +1,6 @@
-// The walk over rows: being asked and being left send each other on until letters are reached, with answers remembered for one
-// tick (specs/Walk.antt). `steps` falls at each call. Leaving a row is always the last way to go on that is tried, so a letter
-// that is marked stays marked unless the tick is bad.
+// The walk over rows: being asked and being left send each other on until letters are reached (specs/Walk.antt). `steps` falls at
+// each call. What entering a row came to is remembered for one tick. Leaving a row is always the last thing done, so the rows
+// asked and left from one position are a line, and a letter that is marked stays marked unless the tick is bad.
 use super::letters::letter_met;
 use words::part0;
 use words::part1;
@@ -10,7 +10,7 @@ ghost use mathlib.Core.Path.{_≡_};
 ghost use mathlib.Core.List.{List};
 ghost use Prim.Native.Nat.{ℕ};
 ghost use Rattle.monitor.specs.Letters.{given};
-ghost use Rattle.monitor.specs.Walk.{came, told, enterLetter, enterSecond, enterOn, enterM, both, leaveTo, leaveOn, askM, leaveM};
+ghost use Rattle.monitor.specs.Walk.{came, told, enterLetter, enterSecond, enterOn, enterM, leaveTo, askM, leaveM};
 
 // The kinds of rows.
 const LETTER: usize = 0;
@@ -30,17 +30,12 @@ const PASSED: u8 = 2;
 
 const MET: u8 = 3;
 
-// What is remembered of leaving a row.
-const NO: u8 = 1;
-
-const YES: u8 = 2;
-
 // ---- entering
 
 // A letter is met, and marked, or not.
 fn enter_letter(
     letter: usize,
-    memory: &mut [u8; 2304],
+    memory: &mut [u8; 1280],
     word: u64,
     look: &[u64; 256],
     want: &[u64; 256],
@@ -56,7 +51,7 @@ fn enter_letter(
     if !letter_met(letter, word, look, want, links, numbers, values) {
         return BLOCKED;
     }
-    memory[2048 + letter] = 1;
+    memory[1024 + letter] = 1;
     MET
 }
 
@@ -65,7 +60,7 @@ fn enter(
     row: usize,
     steps: usize,
     table: &[u64; 1024],
-    memory: &mut [u8; 2304],
+    memory: &mut [u8; 1280],
     word: u64,
     look: &[u64; 256],
     want: &[u64; 256],
@@ -106,7 +101,7 @@ fn enter_on(
     entry: u64,
     steps: usize,
     table: &[u64; 1024],
-    memory: &mut [u8; 2304],
+    memory: &mut [u8; 1280],
     word: u64,
     look: &[u64; 256],
     want: &[u64; 256],
@@ -161,7 +156,7 @@ fn enter_second(
     first: u8,
     steps: usize,
     table: &[u64; 1024],
-    memory: &mut [u8; 2304],
+    memory: &mut [u8; 1280],
     word: u64,
     look: &[u64; 256],
     want: &[u64; 256],
@@ -229,7 +224,7 @@ pub(crate) fn ask(
     row: usize,
     steps: usize,
     table: &[u64; 1024],
-    memory: &mut [u8; 2304],
+    memory: &mut [u8; 1280],
     word: u64,
     look: &[u64; 256],
     want: &[u64; 256],
@@ -274,12 +269,13 @@ pub(crate) fn ask(
     )
 }
 
-// A row is left: whether there is a way on behind it that the tick meets.
+// A row is left: whether there is a way on behind it that the tick meets. A monitor's own row, which points at itself, is asked
+// again; any other is left to the row above.
 pub(crate) fn leave(
     row: usize,
     steps: usize,
     table: &[u64; 1024],
-    memory: &mut [u8; 2304],
+    memory: &mut [u8; 1280],
     word: u64,
     look: &[u64; 256],
     want: &[u64; 256],
@@ -295,50 +291,11 @@ pub(crate) fn leave(
     if 1024 <= row {
         return false;
     }
-    let known = memory[1024 + row];
-    if known != 0 {
-        return known == YES;
-    }
-    if !leave_on(
-        part3(table[row]),
-        row,
-        steps - 1,
-        table,
-        memory,
-        word,
-        look,
-        want,
-        links,
-        numbers,
-        values,
-    ) {
-        memory[1024 + row] = NO;
-        return false;
-    }
-    memory[1024 + row] = YES;
-    true
-}
-
-// To the row above; a monitor's own row is asked again.
-fn leave_on(
-    above: usize,
-    row: usize,
-    steps: usize,
-    table: &[u64; 1024],
-    memory: &mut [u8; 2304],
-    word: u64,
-    look: &[u64; 256],
-    want: &[u64; 256],
-    links: &[u64; 1024],
-    numbers: &[u64; 1024],
-    values: &[u64; 16],
-) -> bool
-    ensures { λ r. ⌜ told r (now (memory .exit)) ≡ leaveOn (given (now (table .entry)) (now (look .entry)) (now (want .entry)) (now (links .entry)) (now (numbers .entry)) (now (values .entry)) word) (askM steps (given (now (table .entry)) (now (look .entry)) (now (want .entry)) (now (links .entry)) (now (numbers .entry)) (now (values .entry)) word)) (leaveM steps (given (now (table .entry)) (now (look .entry)) (now (want .entry)) (now (links .entry)) (now (numbers .entry)) (now (values .entry)) word)) above row (now (memory .entry)) ⌝ }
-{
+    let above = part3(table[row]);
     if above == row {
         return ask(
             row,
-            steps,
+            steps - 1,
             table,
             memory,
             word,
@@ -356,7 +313,7 @@ fn leave_on(
         table[above],
         above,
         row,
-        steps,
+        steps - 1,
         table,
         memory,
         word,
@@ -368,14 +325,14 @@ fn leave_on(
     )
 }
 
-// By the word of the row above.
+// By the word of the row above. An `@` whose left operand is left starts its thread, and is left.
 fn leave_to(
     entry: u64,
     above: usize,
     row: usize,
     steps: usize,
     table: &[u64; 1024],
-    memory: &mut [u8; 2304],
+    memory: &mut [u8; 1280],
     word: u64,
     look: &[u64; 256],
     want: &[u64; 256],
@@ -383,7 +340,7 @@ fn leave_to(
     numbers: &[u64; 1024],
     values: &[u64; 16],
 ) -> bool
-    ensures { λ r. ⌜ told r (now (memory .exit)) ≡ leaveTo (askM steps (given (now (table .entry)) (now (look .entry)) (now (want .entry)) (now (links .entry)) (now (numbers .entry)) (now (values .entry)) word)) (leaveM steps (given (now (table .entry)) (now (look .entry)) (now (want .entry)) (now (links .entry)) (now (numbers .entry)) (now (values .entry)) word)) entry above row (now (memory .entry)) ⌝ }
+    ensures { λ r. ⌜ told r (now (memory .exit)) ≡ leaveTo (enterM steps (given (now (table .entry)) (now (look .entry)) (now (want .entry)) (now (links .entry)) (now (numbers .entry)) (now (values .entry)) word)) (askM steps (given (now (table .entry)) (now (look .entry)) (now (want .entry)) (now (links .entry)) (now (numbers .entry)) (now (values .entry)) word)) (leaveM steps (given (now (table .entry)) (now (look .entry)) (now (want .entry)) (now (links .entry)) (now (numbers .entry)) (now (values .entry)) word)) entry above row (now (memory .entry)) ⌝ }
 {
     let kind = part0(entry);
     if kind == SEQUENCE {
@@ -448,8 +405,7 @@ fn leave_to(
     if part1(entry) != row {
         return true;
     }
-    both(
-        above,
+    let thread = enter(
         part2(entry),
         steps,
         table,
@@ -460,41 +416,12 @@ fn leave_to(
         links,
         numbers,
         values,
-    )
-}
-
-// An `@` is left, and its thread asked.
-fn both(
-    above: usize,
-    thread: usize,
-    steps: usize,
-    table: &[u64; 1024],
-    memory: &mut [u8; 2304],
-    word: u64,
-    look: &[u64; 256],
-    want: &[u64; 256],
-    links: &[u64; 1024],
-    numbers: &[u64; 1024],
-    values: &[u64; 16],
-) -> bool
-    ensures { λ r. ⌜ told r (now (memory .exit)) ≡ both (askM steps (given (now (table .entry)) (now (look .entry)) (now (want .entry)) (now (links .entry)) (now (numbers .entry)) (now (values .entry)) word)) (leaveM steps (given (now (table .entry)) (now (look .entry)) (now (want .entry)) (now (links .entry)) (now (numbers .entry)) (now (values .entry)) word)) above thread (now (memory .entry)) ⌝ }
-{
-    if !leave(
-        above,
-        steps,
-        table,
-        memory,
-        word,
-        look,
-        want,
-        links,
-        numbers,
-        values,
-    ) {
+    );
+    if thread == BLOCKED {
         return false;
     }
-    ask(
-        thread,
+    leave(
+        above,
         steps,
         table,
         memory,
