@@ -7,7 +7,7 @@ use Prim.Native.Nat.{ℕ, suc, _+_, _≤_, _<_}
 use native.Mathlib.Omega.{arith}
 use lib.Dec.{ltb}
 use lib.ListN.{length}
-use borrow.Author.Tests.{ltb-true, ltb-false, lt-ltb, le-ltb}
+use borrow.Author.Tests.{lt-ltb, le-ltb}
 use Rattle.lexer.specs.Tokens.{Placed, tokens}
 use Rattle.refusals.specs.Numbers.{overlong, longRun, impossible, hollow, openEnd, fork}
 use Rattle.meaning.specs.Lists.{_∈_, total}
@@ -17,18 +17,13 @@ use Rattle.meaning.specs.Names.{Names, noNames, Program}
 use Rattle.meaning.specs.Reading.{Expect, statement, Step, go, finished, fault, step, andThen, readOn, read}
 use Rattle.meaning.specs.ShapeTests.{SizedLetters, Shape, accepted, turned-away, firstOf, shape, unsatisfiable, nullables, openEnds, ambiguous}
 use Rattle.meaning.specs.Opening.{Opened, asOpened, tooLong, byShape, misshapen, openProgram, andOpen, openText}
-use Rattle.meaning.specs.Acceptance.{Written, WellShaped, Acceptable, FirstFault, by-9, by-10, by-11, by-12, Stands, FirstLong, FirstMisshapen, TurnedAway}
+use Rattle.meaning.specs.Acceptance.{Written, WellShaped, Acceptable, FirstFault, by-9, by-10, by-11, by-12, FirstMisshapen, TurnedAway}
 use Rattle.meaning.proofs.ListLaws.{clash, here, there, cons-∈, no-∈}
 use Rattle.meaning.proofs.Shaped.{shape-9, shape-10, shape-11, shape-12, shape-accepted}
-use Rattle.meaning.proofs.GrammarExact.{reads-exactly, one-program}
-use Rattle.meaning.proofs.Openings.{letters-sized}
+use Rattle.meaning.proofs.GrammarExact.{reads-exactly}
+use Rattle.meaning.proofs.Openings.{Counting, few, many, counting, few-letters, letters-sized}
 
 -- ---- one monitor
-
--- a rule's list of letters names that rule, or the answer is the next rule's
-named : (rule : ℕ) (ns : List ℕ) (s : Shape) (r n : ℕ) → firstOf rule ns s ≡ turned-away r n → (rule ≡ r) ⊎ (s ≡ turned-away r n)
-named rule [] s r n e = inr e
-named rule (m ∷ ms) s r n e = inl (cc)
 
 module _ (m : Exp) (sized : SizedLetters m) where
   well : shape m ≡ accepted ↔ WellShaped m
@@ -37,31 +32,20 @@ module _ (m : Exp) (sized : SizedLetters m) where
     λ w. shape-accepted m sized .1 (w .satisfiable, w .solid, w .closed, w .unambiguous),
   )
 
-  is-12 : (r n : ℕ) → firstOf fork (ambiguous m) accepted ≡ turned-away r n → shape m ≡ turned-away r n → FirstFault m r n
-  is-12 r n e f =
-      ⊎-elim
-      (λ p. subst (λ (k : ℕ). FirstFault m k n) p (let (a, b, c, d) = shape-12 m sized n .0 (f ∙ ap (λ (k : ℕ). turned-away k n) (sym p)) in by-12 a b c d))
-      (λ g. clash (cc)) (named fork (ambiguous m) accepted r n e)
-
-  is-11 : (r n : ℕ) → firstOf openEnd (openEnds m) (firstOf fork (ambiguous m) accepted) ≡ turned-away r n → shape m ≡ turned-away r n → FirstFault m r n
-  is-11 r n e f =
-      ⊎-elim
-      (λ p. subst (λ (k : ℕ). FirstFault m k n) p (let (a, b, c) = shape-11 m sized n .0 (f ∙ ap (λ (k : ℕ). turned-away k n) (sym p)) in by-11 a b c))
-      (λ g. is-12 r n g f) (named openEnd (openEnds m) _ r n e)
-
-  is-10 : (r n : ℕ) → firstOf hollow (nullables m) (firstOf openEnd (openEnds m) (firstOf fork (ambiguous m) accepted)) ≡ turned-away r n → shape m ≡ turned-away r n
-      → FirstFault m r n
-  is-10 r n e f =
-      ⊎-elim
-      (λ p. subst (λ (k : ℕ). FirstFault m k n) p (let (a, b) = shape-10 m sized n .0 (f ∙ ap (λ (k : ℕ). turned-away k n) (sym p)) in by-10 a b))
-      (λ g. is-11 r n g f) (named hollow (nullables m) _ r n e)
+  -- an answer is this rule's, or comes from those behind it
+  first-of : (rule : ℕ) (ns : List ℕ) (s : Shape) (r n : ℕ) → shape m ≡ turned-away r n → (shape m ≡ turned-away rule n → FirstFault m rule n)
+      → (s ≡ turned-away r n → FirstFault m r n) → firstOf rule ns s ≡ turned-away r n → FirstFault m r n
+  first-of rule [] s r n f own rest e = rest e
+  first-of rule (k ∷ ks) s r n f own rest e =
+      let p : rule ≡ r = cc in subst (λ (q : ℕ). FirstFault m q n) p (own (f ∙ ap (λ (q : ℕ). turned-away q n) (sym p)))
 
   ill : (r n : ℕ) → shape m ≡ turned-away r n → FirstFault m r n
   unfolding shape
   ill r n f =
-      ⊎-elim
-      (λ p. subst (λ (k : ℕ). FirstFault m k n) p (by-9 (shape-9 m sized n .0 (f ∙ ap (λ (k : ℕ). turned-away k n) (sym p)))))
-      (λ g. is-10 r n g f) (named impossible (unsatisfiable m) _ r n f)
+      first-of impossible (unsatisfiable m) _ r n f (λ g. by-9 (shape-9 m sized n .0 g))
+      (first-of hollow (nullables m) _ r n f (λ g. let (a, b) = shape-10 m sized n .0 g in by-10 a b)
+      (first-of openEnd (openEnds m) _ r n f (λ g. let (a, b, c) = shape-11 m sized n .0 g in by-11 a b c)
+      (first-of fork (ambiguous m) accepted r n f (λ g. let (a, b, c, d) = shape-12 m sized n .0 g in by-12 a b c d) (λ g. clash (cc))))) f
 
   faulty : {r n : ℕ} → FirstFault m r n → shape m ≡ turned-away r n
   faulty (by-9 a) = shape-9 m sized _ .1 a
@@ -70,32 +54,6 @@ module _ (m : Exp) (sized : SizedLetters m) where
   faulty (by-12 a b c d) = shape-12 m sized _ .1 (a, b, c, d)
 
 -- ---- too many letters
-
--- what comes of counting letters, monitors counted from i, and n letters before them
-data Counting (i n : ℕ) (ms : List Exp) (rest : Answer Opened) : Answer Opened → Type 0 where
-  within : n + total size ms ≤ 256 → Counting i n ms rest rest
-  beyond : (before after : List Exp) (m : Exp) → ms ≡ before ++ (m ∷ after) → n + total size before ≤ 256 → 256 < n + total size before + size m
-      → Counting i n ms rest (refused longRun (letterOf (i + length before) 0))
-
-counting : (i n : ℕ) (ms : List Exp) (rest : Answer Opened) → n ≤ 256 → Counting i n ms rest (tooLong i n ms rest)
-unfolding tooLong
-counting i n [] rest h = within (omega arith)
-counting i n (m ∷ ms) rest h = by (ltb 256 (n + size m)) refl (λ g. counting (suc i) (n + size m) ms rest g)
-  where
-    later : (x : Answer Opened) → Counting (suc i) (n + size m) ms rest x → Counting i n (m ∷ ms) rest x
-    later x (within g) = within (omega (arith, g))
-    later x (beyond bs ds k e g l) =
-        let q : i + length (m ∷ bs) ≡ suc i + length bs = omega arith in
-        subst (λ (j : ℕ). Counting i n (m ∷ ms) rest (refused longRun (letterOf j 0))) q
-        (beyond (m ∷ bs) ds k (ap (λ (xs : List Exp). m ∷ xs) e) (omega (arith, g)) (omega (arith, l)))
-
-    by : (t : Bool) → ltb 256 (n + size m) ≡ t → (n + size m ≤ 256 → Counting (suc i) (n + size m) ms rest (tooLong (suc i) (n + size m) ms rest))
-        → Counting i n (m ∷ ms) rest (cond t (refused longRun (letterOf i 0)) (tooLong (suc i) (n + size m) ms rest))
-    by true e ih =
-        let q : i + length {A = Exp} [] ≡ i = omega arith in
-        subst (λ (j : ℕ). Counting i n (m ∷ ms) rest (refused longRun (letterOf j 0))) q
-        (beyond [] ms m refl (omega (arith, h)) (omega (arith, ltb-true 256 (n + size m) e)))
-    by false e ih = later _ (ih (ltb-false 256 (n + size m) e))
 
 -- few letters are counted through
 counted-through : (i n : ℕ) (ms : List Exp) (rest : Answer Opened) → n + total size ms ≤ 256 → tooLong i n ms rest ≡ rest
@@ -190,18 +148,16 @@ module _ (p : Program) (sized : EachSized (asOpened p .monitors)) where
   program-accepted : (o : Opened) → openProgram p ≡ value o ↔ ((total size (p .monitors) ≤ 256) × EachWell (asOpened p .monitors) × (asOpened p ≡ o))
   unfolding openProgram judgedMonitors
   program-accepted o = (
-    λ e. long _ (counting 0 0 (p .monitors) judgedMonitors (omega arith)) e,
+    λ e.
+        let (f, r) = few-letters (p .monitors) judgedMonitors o e in
+        let (w, q) = shaped _ (judging 0 (asOpened p .monitors) (value (asOpened p)) sized) r in
+        (f, w, q),
     λ (f, w, q). counted-through 0 0 (p .monitors) judgedMonitors (omega (arith, f)) ∙ judged-well 0 (asOpened p .monitors) (value (asOpened p)) sized w ∙ ap value q,
   )
     where
       shaped : (x : Answer Opened) → Judging 0 (asOpened p .monitors) (value (asOpened p)) x → x ≡ value o → EachWell (asOpened p .monitors) × (asOpened p ≡ o)
       shaped x (all-well h) e = (h, cc)
       shaped x (first-ill bs ds m r n d h f) e = clash (cc)
-
-      long : (x : Answer Opened) → Counting 0 0 (p .monitors) judgedMonitors x → x ≡ value o
-          → (total size (p .monitors) ≤ 256) × EachWell (asOpened p .monitors) × (asOpened p ≡ o)
-      long x (within g) e = let (h, q) = shaped _ (judging 0 (asOpened p .monitors) (value (asOpened p)) sized) e in (omega (arith, g), h, q)
-      long x (beyond bs ds m d h l) e = clash (cc)
 
   program-turned : (number i letter : ℕ) → openProgram p ≡ refused number (letterOf i letter) ↔ TurnedAway p number i letter
   unfolding openProgram judgedMonitors
@@ -237,8 +193,8 @@ module _ (p : Program) (sized : EachSized (asOpened p .monitors)) where
           }
 
       long : (x : Answer Opened) → Counting 0 0 (p .monitors) judgedMonitors x → x ≡ refused number (letterOf i letter) → TurnedAway p number i letter
-      long x (within g) e = inr (omega (arith, g), shaped _ (judging 0 (asOpened p .monitors) (value (asOpened p)) sized) e)
-      long x (beyond bs ds m d h l) e =
+      long x (few g) e = inr (omega (arith, g), shaped _ (judging 0 (asOpened p .monitors) (value (asOpened p)) sized) e)
+      long x (many bs ds m d h l) e =
           let a : longRun ≡ number = cc in
           let b : 0 ≡ letter = cc in
           let c : 0 + length bs ≡ i = cc in
@@ -254,8 +210,8 @@ module _ (p : Program) (sized : EachSized (asOpened p .monitors)) where
       shaped x (first-ill bs ds m r n d h f) e = clash (cc)
 
       long : (x : Answer Opened) → Counting 0 0 (p .monitors) judgedMonitors x → x ≡ refused number (byte place) → ⊥
-      long x (within g) e = shaped _ (judging 0 (asOpened p .monitors) (value (asOpened p)) sized) e
-      long x (beyond bs ds m d h l) e = clash (cc)
+      long x (few g) e = shaped _ (judging 0 (asOpened p .monitors) (value (asOpened p)) sized) e
+      long x (many bs ds m d h l) e = clash (cc)
 
 -- ---- a text
 

@@ -3,14 +3,14 @@
 use mathlib.Core.Path.{_≡_, refl, sym, ap, _∙_, subst}
 use mathlib.Core.Logic.{_↔_, ⊎-elim}
 use mathlib.Core.Bool.{Bool, true, false, cond}
-use mathlib.Core.List.{List, [], _∷_, map}
+use mathlib.Core.List.{List, [], _∷_, _++_, map}
 use Prim.Native.Nat.{ℕ, suc, _+_, _/_, _%_, _^_, _≤_, _<_}
 use native.Mathlib.Nat.{le-dest, mod-lt, lt-of-lt-of-le}
 use native.Mathlib.Omega.{arith}
 use lib.Dec.{T, ltb, eqb}
 use lib.ListN.{length}
 use lib.Pow.{pow-pos, pow-mono, field as slice, mod-mod-pow}
-use borrow.Author.Tests.{ltb-false}
+use borrow.Author.Tests.{ltb-true, ltb-false}
 use Rattle.meaning.specs.Lists.{_∈_, all, total}
 use Rattle.meaning.specs.Answers.{Answer, value, refused, letterOf}
 use Rattle.refusals.specs.Numbers.{longRun}
@@ -35,16 +35,38 @@ use Rattle.meaning.proofs.Within.{Each, Within, LetterWithin, ExpWithin
 
 -- ---- accepted: nothing was wrong
 
-not-long : (i n : ℕ) (ms : List Exp) (r : Answer Opened) (o : Opened) → n ≤ 256 → tooLong i n ms r ≡ value o → (n + total size ms ≤ 256) × (r ≡ value o)
+-- what comes of counting letters, monitors counted from i, and n letters before them
+pub data Counting (i n : ℕ) (ms : List Exp) (rest : Answer Opened) : Answer Opened → Type 0 where
+  few : n + total size ms ≤ 256 → Counting i n ms rest rest
+  many : (before after : List Exp) (m : Exp) → ms ≡ before ++ (m ∷ after) → n + total size before ≤ 256 → 256 < n + total size before + size m
+      → Counting i n ms rest (refused longRun (letterOf (i + length before) 0))
+
+pub counting : (i n : ℕ) (ms : List Exp) (rest : Answer Opened) → n ≤ 256 → Counting i n ms rest (tooLong i n ms rest)
 unfolding tooLong
-not-long i n [] r o h e = (omega arith, e)
-not-long i n (m ∷ ms) r o h e = by (ltb 256 (n + size m)) refl e (λ g f. not-long (suc i) (n + size m) ms r o g f)
+counting i n [] rest h = few (omega arith)
+counting i n (m ∷ ms) rest h = by (ltb 256 (n + size m)) refl (λ g. counting (suc i) (n + size m) ms rest g)
   where
-    by : (t : Bool) → ltb 256 (n + size m) ≡ t → cond t (refused longRun (letterOf i 0)) (tooLong (suc i) (n + size m) ms r) ≡ value o
-        → (n + size m ≤ 256 → tooLong (suc i) (n + size m) ms r ≡ value o → (n + size m + total size ms ≤ 256) × (r ≡ value o))
-        → (n + (size m + total size ms) ≤ 256) × (r ≡ value o)
-    by true t f ih = clash (cc)
-    by false t f ih = let k = ih (ltb-false 256 (n + size m) t) f in (omega (arith, k .0), k .1)
+    later : (x : Answer Opened) → Counting (suc i) (n + size m) ms rest x → Counting i n (m ∷ ms) rest x
+    later x (few g) = few (omega (arith, g))
+    later x (many bs ds k e g l) =
+        let q : i + length (m ∷ bs) ≡ suc i + length bs = omega arith in
+        subst (λ (j : ℕ). Counting i n (m ∷ ms) rest (refused longRun (letterOf j 0))) q
+        (many (m ∷ bs) ds k (ap (λ (xs : List Exp). m ∷ xs) e) (omega (arith, g)) (omega (arith, l)))
+
+    by : (t : Bool) → ltb 256 (n + size m) ≡ t → (n + size m ≤ 256 → Counting (suc i) (n + size m) ms rest (tooLong (suc i) (n + size m) ms rest))
+        → Counting i n (m ∷ ms) rest (cond t (refused longRun (letterOf i 0)) (tooLong (suc i) (n + size m) ms rest))
+    by true e ih =
+        let q : i + length {A = Exp} [] ≡ i = omega arith in
+        subst (λ (j : ℕ). Counting i n (m ∷ ms) rest (refused longRun (letterOf j 0))) q
+        (many [] ms m refl (omega (arith, h)) (omega (arith, ltb-true 256 (n + size m) e)))
+    by false e ih = later _ (ih (ltb-false 256 (n + size m) e))
+
+pub few-letters : (ms : List Exp) (r : Answer Opened) (o : Opened) → tooLong 0 0 ms r ≡ value o → (total size ms ≤ 256) × (r ≡ value o)
+few-letters ms r o e = by _ (counting 0 0 ms r (omega arith)) e
+  where
+    by : (x : Answer Opened) → Counting 0 0 ms r x → x ≡ value o → (total size ms ≤ 256) × (r ≡ value o)
+    by x (few g) f = (omega (arith, g), f)
+    by x (many before after m d h l) f = clash (cc)
 
 well-shaped : (i : ℕ) (ms : List Exp) (r : Answer Opened) (o : Opened) → misshapen i ms r ≡ value o → ((m : Exp) → m ∈ ms → shape m ≡ accepted) × (r ≡ value o)
 unfolding misshapen
@@ -70,14 +92,14 @@ pub record Accepted (text : List ℕ) (o : Opened) : Type 0 where
 opened-program : (text : List ℕ) (p : Program) (o : Opened) → read text ≡ value p → openProgram p ≡ value o → Accepted text o
 unfolding openProgram
 opened-program text p o q e =
-    let l = not-long 0 0 (p .monitors) (misshapen 0 (asOpened p .monitors) (value (asOpened p))) o (omega arith) e in
+    let l = few-letters (p .monitors) (misshapen 0 (asOpened p .monitors) (value (asOpened p))) o e in
     let s = well-shaped 0 (asOpened p .monitors) (value (asOpened p)) o (l .1) in
     let same : asOpened p ≡ o = cc (s .1) in
     record {
       program = p;
       reads = q;
       opens = same;
-      few = omega (arith, l .0);
+      few = l .0;
       shaped = subst (λ z. (m : Exp) → m ∈ z .monitors → shape m ≡ accepted) same (s .0);
     }
 

@@ -131,7 +131,8 @@ fn surely_fits(records: usize, room: usize) -> bool
     64000192 <= room
 }
 
-// Prints the sheet of a rule text and a trace into a lent range: the sheet's length, or 0 and an untouched range if that is too short.
+// Prints the sheet of a rule text and a trace into a lent range, and returns its length. A range that is shorter keeps its bytes, and 0 is
+// returned.
 #[no_mangle]
 pub extern "C" fn linewatch_sheet(text: &[u8], records: &[u8], sheet: &mut [u8]) -> usize
     ensures { λ r. ⌜ (r ≡ lentLength (now (text .entry)) (now (records .entry)) (now (sheet .entry))) × (now (sheet .exit) ≡ lentSheet (now (text .entry)) (now (records .entry)) (now (sheet .entry)) .list) ⌝ }
