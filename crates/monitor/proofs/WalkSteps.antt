@@ -71,9 +71,46 @@ module _ (n : ℕ) (g : Given) (r : ℕ) (M : List ℕ) where
           unfolding leaveM leaveOn
           leave-lost f = rw (one-less n z, lt-leb 1024 r h, ← d, ne-eqb u r y, le-leb 1024 u f)
 
-          pub leave-up : u < 1024 → (a : Told) → a ≡ leaveTo (enterM (n - 1) g) (askM (n - 1) g) (leaveM (n - 1) g) (getD (g .table) u 0) u r M → a ≡ leaveM n g r M
-          unfolding leaveM leaveOn
-          leave-up f a p = rw (one-less n z, lt-leb 1024 r h, ← d, ne-eqb u r y, lt-leb 1024 u f) p
+          -- k is its kind
+          module _ (f : u < 1024) (k : ℕ) (q : k ≡ part0 (getD (g .table) u 0)) where
+            by-above : (a : Told) → a ≡ leaveTo (enterM (n - 1) g) (askM (n - 1) g) (leaveM (n - 1) g) (getD (g .table) u 0) u r M → a ≡ leaveM n g r M
+            unfolding leaveM leaveOn
+            by-above a p = rw (one-less n z, lt-leb 1024 r h, ← d, ne-eqb u r y, lt-leb 1024 u f) p
+
+            pub to-alternative : k ≡ 2 → (a : Told) → a ≡ leaveM (n - 1) g u M → a ≡ leaveM n g r M
+            unfolding leaveTo
+            to-alternative e a p = by-above a (rw (← q, e) p)
+
+            pub to-star : k ≡ 3 → (a : Told) → a ≡ askM (n - 1) g u M → a ≡ leaveM n g r M
+            unfolding leaveTo
+            to-star e a p = by-above a (rw (← q, e) p)
+
+            pub to-none : (k ≡ 1 → ⊥) → (k ≡ 2 → ⊥) → (k ≡ 3 → ⊥) → (k ≡ 4 → ⊥) → told false M ≡ leaveM n g r M
+            unfolding leaveTo
+            to-none m o s t = by-above (told false M) (rw (← q, ne-eqb k 1 m, ne-eqb k 2 o, ne-eqb k 3 s, ne-eqb k 4 t))
+
+            module _ (b : ℕ) (c : b ≡ part1 (getD (g .table) u 0)) where
+              pub to-end : k ≡ 1 → (b ≡ r → ⊥) → (a : Told) → a ≡ leaveM (n - 1) g u M → a ≡ leaveM n g r M
+              unfolding leaveTo
+              to-end e t a p = by-above a (rw (← q, e, ← c, ne-eqb b r t) p)
+
+              pub to-ended : k ≡ 4 → (b ≡ r → ⊥) → told true M ≡ leaveM n g r M
+              unfolding leaveTo
+              to-ended e t = by-above (told true M) (rw (← q, e, ← c, ne-eqb b r t))
+
+              module _ (t : b ≡ r) (i : ℕ) (j : i ≡ part2 (getD (g .table) u 0)) where
+                pub to-right : k ≡ 1 → (a : Told) → a ≡ askM (n - 1) g i M → a ≡ leaveM n g r M
+                unfolding leaveTo
+                to-right e a p = by-above a (rw (← q, e, ← c, eq-eqb b r t, ← j) p)
+
+                module _ (e : k ≡ 4) (v : ℕ) (N : List ℕ) (o : came v N ≡ enterM (n - 1) g i M) where
+                  pub thread-blocked : v ≡ 1 → told false N ≡ leaveM n g r M
+                  unfolding leaveTo
+                  thread-blocked s = by-above (told false N) (rw (← q, e, ← c, eq-eqb b r t, ← j, ← o, s))
+
+                  pub thread-starts : (v ≡ 1 → ⊥) → (a : Told) → a ≡ leaveM (n - 1) g u N → a ≡ leaveM n g r M
+                  unfolding leaveTo
+                  thread-starts s a p = by-above a (rw (← q, e, ← c, eq-eqb b r t, ← j, ← o, ne-eqb v 1 s) p)
 
     module _ (k : ℕ) (N : List ℕ) (e : came k N ≡ enterM (n - 1) g r M) where
       pub ask-met : k ≡ 3 → told true N ≡ askM n g r M
@@ -129,41 +166,3 @@ module _ (enter : Entry) (x f : ℕ) (M : List ℕ) (k : ℕ) (q : k ≡ part0 x
 
         pub second-only : (f ≡ 3 → ⊥) → (f ≡ 2 → ⊥) → came s N ≡ enterSecond enter x (came f M)
         second-only n t = rw (← q, h, ne-eqb f 3 n, ← d, ← e, ne-eqb s 3 v, ne-eqb f 2 t)
-
--- ---- the row above, when a row is left
-
-module _ (enter : Entry) (ask leave : Call) (x u r : ℕ) (M : List ℕ) (k : ℕ) (q : k ≡ part0 x) where
-  pub to-alternative : k ≡ 2 → (a : Told) → a ≡ leave u M → a ≡ leaveTo enter ask leave x u r M
-  unfolding leaveTo
-  to-alternative h a p = rw (← q, h) p
-
-  pub to-star : k ≡ 3 → (a : Told) → a ≡ ask u M → a ≡ leaveTo enter ask leave x u r M
-  unfolding leaveTo
-  to-star h a p = rw (← q, h) p
-
-  pub to-none : (k ≡ 1 → ⊥) → (k ≡ 2 → ⊥) → (k ≡ 3 → ⊥) → (k ≡ 4 → ⊥) → told false M ≡ leaveTo enter ask leave x u r M
-  unfolding leaveTo
-  to-none z m o t = rw (← q, ne-eqb k 1 z, ne-eqb k 2 m, ne-eqb k 3 o, ne-eqb k 4 t)
-
-  module _ (b : ℕ) (d : b ≡ part1 x) where
-    pub to-end : k ≡ 1 → (b ≡ r → ⊥) → (a : Told) → a ≡ leave u M → a ≡ leaveTo enter ask leave x u r M
-    unfolding leaveTo
-    to-end h t a p = rw (← q, h, ← d, ne-eqb b r t) p
-
-    pub to-ended : k ≡ 4 → (b ≡ r → ⊥) → told true M ≡ leaveTo enter ask leave x u r M
-    unfolding leaveTo
-    to-ended h t = rw (← q, h, ← d, ne-eqb b r t)
-
-    module _ (t : b ≡ r) (i : ℕ) (j : i ≡ part2 x) where
-      pub to-right : k ≡ 1 → (a : Told) → a ≡ ask i M → a ≡ leaveTo enter ask leave x u r M
-      unfolding leaveTo
-      to-right h a p = rw (← q, h, ← d, eq-eqb b r t, ← j) p
-
-      module _ (h : k ≡ 4) (c : ℕ) (N : List ℕ) (e : came c N ≡ enter i M) where
-        pub thread-blocked : c ≡ 1 → told false N ≡ leaveTo enter ask leave x u r M
-        unfolding leaveTo
-        thread-blocked s = rw (← q, h, ← d, eq-eqb b r t, ← j, ← e, s)
-
-        pub thread-starts : (c ≡ 1 → ⊥) → (a : Told) → a ≡ leave u N → a ≡ leaveTo enter ask leave x u r M
-        unfolding leaveTo
-        thread-starts s a p = rw (← q, h, ← d, eq-eqb b r t, ← j, ← e, ne-eqb c 1 s) p

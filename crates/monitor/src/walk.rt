@@ -10,7 +10,7 @@ ghost use mathlib.Core.Path.{_≡_};
 ghost use mathlib.Core.List.{List};
 ghost use Prim.Native.Nat.{ℕ};
 ghost use Rattle.monitor.specs.Letters.{given};
-ghost use Rattle.monitor.specs.Walk.{came, told, enterLetter, enterSecond, enterOn, enterM, leaveTo, askM, leaveM};
+ghost use Rattle.monitor.specs.Walk.{came, told, enterLetter, enterSecond, enterOn, enterM, askM, leaveM};
 
 // The kinds of rows.
 const LETTER: usize = 0;
@@ -270,7 +270,7 @@ pub(crate) fn ask(
 }
 
 // A row is left: whether there is a way on behind it that the tick meets. A monitor's own row, which points at itself, is asked
-// again; any other is left to the row above.
+// again; any other goes on by the row above. An `@` whose left operand is left starts its thread, and is left.
 pub(crate) fn leave(
     row: usize,
     steps: usize,
@@ -291,11 +291,12 @@ pub(crate) fn leave(
     if 1024 <= row {
         return false;
     }
+    let left = steps - 1;
     let above = part3(table[row]);
     if above == row {
         return ask(
             row,
-            steps - 1,
+            left,
             table,
             memory,
             word,
@@ -309,45 +310,13 @@ pub(crate) fn leave(
     if 1024 <= above {
         return false;
     }
-    leave_to(
-        table[above],
-        above,
-        row,
-        steps - 1,
-        table,
-        memory,
-        word,
-        look,
-        want,
-        links,
-        numbers,
-        values,
-    )
-}
-
-// By the word of the row above. An `@` whose left operand is left starts its thread, and is left.
-fn leave_to(
-    entry: u64,
-    above: usize,
-    row: usize,
-    steps: usize,
-    table: &[u64; 1024],
-    memory: &mut [u8; 1280],
-    word: u64,
-    look: &[u64; 256],
-    want: &[u64; 256],
-    links: &[u64; 1024],
-    numbers: &[u64; 1024],
-    values: &[u64; 16],
-) -> bool
-    ensures { λ r. ⌜ told r (now (memory .exit)) ≡ leaveTo (enterM steps (given (now (table .entry)) (now (look .entry)) (now (want .entry)) (now (links .entry)) (now (numbers .entry)) (now (values .entry)) word)) (askM steps (given (now (table .entry)) (now (look .entry)) (now (want .entry)) (now (links .entry)) (now (numbers .entry)) (now (values .entry)) word)) (leaveM steps (given (now (table .entry)) (now (look .entry)) (now (want .entry)) (now (links .entry)) (now (numbers .entry)) (now (values .entry)) word)) entry above row (now (memory .entry)) ⌝ }
-{
+    let entry = table[above];
     let kind = part0(entry);
     if kind == SEQUENCE {
         if part1(entry) == row {
             return ask(
                 part2(entry),
-                steps,
+                left,
                 table,
                 memory,
                 word,
@@ -360,7 +329,7 @@ fn leave_to(
         }
         return leave(
             above,
-            steps,
+            left,
             table,
             memory,
             word,
@@ -374,7 +343,7 @@ fn leave_to(
     if kind == ALTERNATIVE {
         return leave(
             above,
-            steps,
+            left,
             table,
             memory,
             word,
@@ -388,7 +357,7 @@ fn leave_to(
     if kind == STAR {
         return ask(
             above,
-            steps,
+            left,
             table,
             memory,
             word,
@@ -407,7 +376,7 @@ fn leave_to(
     }
     let thread = enter(
         part2(entry),
-        steps,
+        left,
         table,
         memory,
         word,
@@ -422,7 +391,7 @@ fn leave_to(
     }
     leave(
         above,
-        steps,
+        left,
         table,
         memory,
         word,
