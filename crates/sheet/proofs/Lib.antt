@@ -11,6 +11,8 @@ mod SheetSteps
 mod PageSteps
 -- each line from its pieces
 mod LineSteps
+-- the kept line of a good tick: laid out, counted on, and given its word
+mod LaidSteps
 -- however a trace is cut, `begin`, the runs and `finish` print the sheet of the whole
 pub mod Pieces
 -- the demands on the line watch as statements, each with its citation: read this first

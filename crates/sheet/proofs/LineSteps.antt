@@ -8,8 +8,8 @@ use lib.ListN.{length, length-append}
 use lib.Seq.{sets}
 use Rattle.lexer.specs.Bytes.{bytes}
 use Rattle.meaning.specs.Sheet.{decimal, hexadecimal, line, refusalLine, countsLine, cleanLine}
-use Rattle.sheet.specs.Lines.{okLine, badLine, tickFront}
-use Rattle.sheet.proofs.PageSteps.{Put, put-two, hexadecimal-long}
+use Rattle.sheet.specs.Lines.{badLine, tickFront}
+use Rattle.sheet.proofs.PageSteps.{Put, put-two}
 
 -- xs are put at a place, and are at most m bytes
 abbrev Line : (o : List ℕ) (a : ℕ) (xs o′ : List ℕ) (a′ m : ℕ) → Type 0
@@ -54,14 +54,10 @@ unfolding cleanLine line
 clean-line n = refl
 
 -- behind a tick's front
-behind-front : (t w : ℕ) (xs : List ℕ) → tickFront t w ++ xs ≡ decimal t ++ (32 ∷ (hexadecimal 16 w ++ (32 ∷ xs)))
+pub behind-front : (t w : ℕ) (xs : List ℕ) → tickFront t w ++ xs ≡ decimal t ++ (32 ∷ (hexadecimal 16 w ++ (32 ∷ xs)))
 behind-front t w xs =
     append-assoc (decimal t) (32 ∷ (hexadecimal 16 w ++ (32 ∷ []))) xs
     ∙ ap (λ (zs : List ℕ). decimal t ++ (32 ∷ zs)) (append-assoc (hexadecimal 16 w) (32 ∷ []) xs)
-
-ok-line : (t w : ℕ) → tickFront t w ++ bytes "ok\n" ≡ okLine t w
-unfolding line
-ok-line t w = behind-front t w (bytes "ok\n")
 
 bad-line : (t w m : ℕ) → tickFront t w ++ (bytes "bad " ++ (decimal m ++ (10 ∷ []))) ≡ badLine t w m
 unfolding line
@@ -83,16 +79,6 @@ pub counts-put : (r l : ℕ) {o o₁ o₂ o₃ o₄ o₅ : List ℕ} {a a₁ a�
     → Put o a (bytes "rows ") o₁ a₁ → Put o₁ a₁ (decimal r) o₂ a₂ → Put o₂ a₂ (bytes " letters ") o₃ a₃ → Put o₃ a₃ (decimal l) o₄ a₄ → Put o₄ a₄ (10 ∷ []) o₅ a₅ → length (decimal r) ≤ 20 → length (decimal l) ≤ 20
     → Line o a (countsLine (record { rows = r; letters = l })) o₅ a₅ 64
 counts-put r l p₁ p₂ p₃ p₄ p₅ l₁ l₂ = as-line (counts-line r l) (then (all p₁) (then (up-to p₂ l₁) (then (all p₃) (then (up-to p₄ l₂) (all p₅))))) (omega arith)
-
-pub tick-put : (t w : ℕ) {o o₁ o₂ o₃ o₄ : List ℕ} {a a₁ a₂ a₃ a₄ : ℕ}
-    → Put o a (decimal t) o₁ a₁ → Put o₁ a₁ (32 ∷ []) o₂ a₂ → Put o₂ a₂ (hexadecimal 16 w) o₃ a₃ → Put o₃ a₃ (32 ∷ []) o₄ a₄ → length (decimal t) ≤ 20
-    → Line o a (tickFront t w) o₄ a₄ 38
-tick-put t w p₁ p₂ p₃ p₄ l₁ = as-line (refl) (then (up-to p₁ l₁) (then (all p₂) (then (up-to {m = 16} p₃ (omega (arith, hexadecimal-long 16 w))) (all p₄)))) (omega arith)
-
-pub ok-put : (t w : ℕ) {o o₁ o₂ : List ℕ} {a a₁ a₂ : ℕ}
-    → Put o a (tickFront t w) o₁ a₁ → Put o₁ a₁ (bytes "ok\n") o₂ a₂ → length (tickFront t w) ≤ 38
-    → Line o a (okLine t w) o₂ a₂ 64
-ok-put t w p₁ p₂ l₁ = as-line (ok-line t w) (then (up-to p₁ l₁) (all p₂)) (omega arith)
 
 pub bad-put : (t w m : ℕ) {o o₁ o₂ o₃ o₄ : List ℕ} {a a₁ a₂ a₃ a₄ : ℕ}
     → Put o a (tickFront t w) o₁ a₁ → Put o₁ a₁ (bytes "bad ") o₂ a₂ → Put o₂ a₂ (decimal m) o₃ a₃ → Put o₃ a₃ (10 ∷ []) o₄ a₄ → length (tickFront t w) ≤ 38 → length (decimal m) ≤ 20

@@ -1,6 +1,6 @@
 -- A run over records, by the code's loop and branches. Assumes nothing.
-use mathlib.Core.Path.{_≡_, refl, sym, _∙_, ap, ap₂}
-use mathlib.Core.Bool.{Bool, true, false}
+use mathlib.Core.Path.{_≡_, refl, sym, _∙_, ap, ap₂, subst}
+use mathlib.Core.Bool.{Bool, true, false, cond}
 use mathlib.Core.List.{List, [], _∷_, _++_, append-assoc}
 use Prim.Native.Nat.{ℕ, zero, suc, _+_, _-_, _*_, _<_, _≤_, min}
 use native.Mathlib.Omega.{arith}
@@ -19,12 +19,14 @@ use Rattle.meaning.specs.Calls as calls
 use Rattle.meaning.specs.Sheet.{refusalLine}
 use Rattle.rules.specs.declared.Watch.{Watch}
 use Rattle.rules.proofs.Overlay.{sets-behind}
-use Rattle.monitor.specs.Calls.{stateOf, withState, stepFrom, refusedBy, replyOf, watchAfter}
-use Rattle.monitor.specs.Ticks.{move}
+use Rattle.monitor.specs.Calls.{stateOf, withState, givenOf, layoutOf, stepFrom, refusedBy, replyOf, watchAfter}
+use Rattle.monitor.specs.Letters.{Given}
+use Rattle.monitor.specs.Ticks.{Layout, within, Reached, Move, move, moveBy, marksAfter, writeMarked, monitorsGo, emptyMemory, stepWithin, stepOf}
 use Rattle.monitor.proofs.TickSteps.{call-refused, call-bad, call-ok, few-ticks, one-tick}
 use Rattle.sheet.specs.Lines.{Run, run, Ran, ran, printing, onReply, onRead, okLine, badLine, runOn, runOver}
 use Rattle.sheet.specs.Items.{itemOf}
 use Rattle.sheet.specs.declared.ticking.Item.{Item as CodeItem}
+use Rattle.sheet.specs.declared.ticking.Ran.{Ran as CodeRan}
 
 -- ---- the code's helpers
 
@@ -105,6 +107,27 @@ read-refused (refused k p) s rest f e z = rw (ne-eqb k 13 e)
 printing-twice : (p q : List ℕ) (x : Ran) → printing p (printing q x) ≡ printing (p ++ q) x
 printing-twice p q x = ap (λ (l : List ℕ). ran l (x .after) (x .left) (x .ended)) (sym (append-assoc p q (x .printed)))
 
+-- ---- a step
+
+-- a step that ends at a bad monitor leaves marks and store values as they were
+bad-keeps : (g : Given) (y : Layout) (marks : List ℕ) (i : ℕ) (K σ : List ℕ) → move i K σ ≡ stepOf g y marks → i < within y .monitors → move i K σ ≡ move i marks (g .values)
+unfolding stepWithin
+bad-keeps g y marks i K σ e h = by (monitorsGo g (within y) marks (within y .monitors) 0 emptyMemory) e
+  where
+    by : (a : Reached) → move i K σ ≡ moveBy g (within y) marks a → move i K σ ≡ move i marks (g .values)
+    by a e = cases (ltb (a .monitor) (within y .monitors)) refl e
+      where
+        next : List ℕ
+        next = marksAfter (within y .letters) (a .memory)
+
+        other : Move
+        other = move (a .monitor) next (writeMarked g next (within y .letters) 0 (g .values))
+
+        cases : (b : Bool) → ltb (a .monitor) (within y .monitors) ≡ b → move i K σ ≡ cond b (move (a .monitor) marks (g .values)) other
+            → move i K σ ≡ move i marks (g .values)
+        cases true f e = e ∙ ap (λ (j : ℕ). move j marks (g .values)) (sym (ap (λ (x : Move). x .monitor) e))
+        cases false f e = absurd (omega (arith, h, ltb-false (a .monitor) (within y .monitors) f, ap (λ (x : Move). x .monitor) e))
+
 -- ---- the loop
 
 -- What was printed so far, and what is to come: no line is longer than 64 bytes, and each is a tick's.
@@ -117,6 +140,10 @@ pub record Going (v₀ : Watch) (b₀ : ℕ) (records out₀ : List ℕ) (at : �
   pub slow : place ≤ at + 64 * v .ticks
   pub few : place ≤ 64000128
   pub early : at ≤ 128
+
+-- the watch with what moved
+abbrev pub moved : Watch → (marks values : List ℕ) → (ticks : ℕ) → Watch
+moved v K σ n = withState v (record { inner = record { marks = K; values = σ }; oks = n; stopped = v .stopped })
 
 pub going-none : (v : Watch) (b : ℕ) (records out : List ℕ) (at : ℕ) → at ≤ 128 → Going v b records out at out v b 0 at
 going-none v b records out at h =
@@ -135,6 +162,11 @@ module _ {v₀ : Watch} {b₀ : ℕ} {records out₀ : List ℕ} {at : ℕ} {out
 
   pub kept-put : (new line : List ℕ) → new ≡ sets out place line → length new ≡ length out₀
   kept-put new line e = ap length e ∙ length-sets out place line ∙ kept
+
+  -- by the struct that is returned
+  pub left-by : (new : List ℕ) (r u : CodeRan) → r ≡ u → Left (runOver (run v₀ b₀) records) records out₀ at new (run (u .watch) (u .before)) (u .used) (u .at) (u .ended)
+      → Left (runOver (run v₀ b₀) records) records out₀ at new (run (r .watch) (r .before)) (r .used) (r .at) (r .ended)
+  left-by new r u e = subst (λ (y : CodeRan). Left (runOver (run v₀ b₀) records) records out₀ at new (run (y .watch) (y .before)) (y .used) (y .at) (y .ended)) (sym e)
 
   abbrev rest : List ℕ
   rest = drop used records
@@ -216,10 +248,12 @@ module _ {v₀ : Watch} {b₀ : ℕ} {records out₀ : List ℕ} {at : ℕ} {out
         going-few q = few-ticks v w k d q
 
         module _ (q : k ≡ 0) (i : ℕ) (K σ : List ℕ) (s : move i K σ ≡ stepFrom v (stateOf v .inner) w) (b : Bool) (f : b ≡ ltb i (min (v .monitors) 32)) where
-          pub going-bad : b ≡ true → Leaves (badLine (v .ticks) w i) (run (withState v (record { inner = stateOf v .inner; oks = v .ticks; stopped = true })) last) true
+          pub going-bad : b ≡ true → Leaves (badLine (v .ticks) w i) (run (withState v (record { inner = record { marks = K; values = σ }; oks = v .ticks; stopped = true })) last) true
           going-bad y new stop =
-              let u = withState v (record { inner = stateOf v .inner; oks = v .ticks; stopped = true }) in
-              let c = call-bad v w k d q i (min (v .monitors) 32) K σ s refl u (ltb-true i (min (v .monitors) 32) (sym f ∙ y)) refl in
+              let u = withState v (record { inner = record { marks = K; values = σ }; oks = v .ticks; stopped = true }) in
+              let h = ltb-true i (min (v .monitors) 32) (sym f ∙ y) in
+              let t = ap (λ (x : Move). withState v (record { inner = record { marks = x .marks; values = x .values }; oks = v .ticks; stopped = true })) (bad-keeps (givenOf v (v .values) w) (layoutOf v) (v .marks) i K σ s h) in
+              let c = call-bad v w k d q i (min (v .monitors) 32) K σ s refl u h t in
               going-left (badLine (v .ticks) w i) (run u last) true new stop
               (replied-with (calls.bad i) (sym (c .0))
               ∙ ap (λ (u : Watch). ran (badLine (v .ticks) w i) (run u last) rest true) (sym (c .1)))

@@ -1,15 +1,18 @@
 // The lines of the sheet (docs/REFERENCE.md, P), each written into a lent range from a place on.
+use super::page::fill_decimal;
 use super::page::put;
 use super::page::put_decimal;
 use super::page::put_text;
-use super::page::put_word;
+use super::page::store_word;
 ghost use mathlib.Core.Path.{_≡_};
 ghost use Prim.Native.Nat.{_+_, _<_, _≤_};
 ghost use mathlib.Core.List.{[], _∷_};
-ghost use lib.ListN.{length};
+ghost use lib.ListN.{length, replicate};
 ghost use lib.Seq.{sets};
 ghost use Rattle.meaning.specs.Sheet.{refusalLine, countsLine, cleanLine};
-ghost use Rattle.sheet.specs.Lines.{okLine, badLine, tickFront};
+ghost use Rattle.sheet.specs.Digits.{Pairs};
+ghost use Rattle.sheet.specs.Laid.{Laid};
+ghost use Rattle.sheet.specs.Lines.{okLine, badLine};
 
 // A refusal with a number and one more: its byte, or its tick.
 pub(crate) fn put_refusal(number: u8, place: u64, out: &mut [u8], at: usize) -> usize
@@ -55,30 +58,65 @@ pub(crate) fn put_counts(rows: u64, letters: u64, out: &mut [u8], at: usize) -> 
     put(b'\n', out, placed)
 }
 
-// A tick's number and word, and a space.
-fn put_tick(t: u64, word: u64, out: &mut [u8], at: usize) -> usize
-    requires { ⌜ at < 4294967296 ⌝ }
-    ensures { λ r. ⌜ (now (out .exit) ≡ sets (now (out .entry)) at (tickFront t word)) × (r ≡ at + length (tickFront t word)) × (length (tickFront t word) ≤ 38) ⌝ }
+// The line of a good tick, laid out from blanks for its number (specs/Laid.antt): where it begins.
+pub(crate) fn lay(t: u64, line: &mut [u8; 41]) -> usize
+    requires { ⌜ now line ≡ replicate 41 32 ⌝ }
+    ensures { λ r. ⌜ Laid (now (line .exit)) r t ⌝ }
 {
-    let numbered = put_decimal(t, out, at);
-    let parted = put(b' ', out, numbered);
-    let told = put_word(word, out, parted);
-    put(b' ', out, told)
+    line[38] = b'o';
+    line[39] = b'k';
+    line[40] = b'\n';
+    fill_decimal(t, line)
 }
 
-pub(crate) fn put_ok(t: u64, word: u64, out: &mut [u8], at: usize) -> usize
-    requires { ⌜ at < 4294967296 ⌝ }
-    ensures { λ r. ⌜ (now (out .exit) ≡ sets (now (out .entry)) at (okLine t word)) × (r ≡ at + length (okLine t word)) × (length (okLine t word) ≤ 64) ⌝ }
+// The line of tick `t` becomes that of the next: of ten times nine only the last digit changes.
+pub(crate) fn count_on(t: u64, from: usize, line: &mut [u8; 41]) -> usize
+    requires { ⌜ Laid (now line) from t × (t < 1000000) ⌝ }
+    ensures { λ r. ⌜ Laid (now (line .exit)) r (t + 1) ⌝ }
 {
-    let front = put_tick(t, word, out, at);
-    put_text(b"ok\n", out, front)
+    let last = line[19];
+    if last < b'9' {
+        line[19] = last + 1;
+        return from;
+    }
+    fill_decimal(t + 1, line)
 }
 
-pub(crate) fn put_bad(t: u64, word: u64, monitor: u64, out: &mut [u8], at: usize) -> usize
-    requires { ⌜ at < 4294967296 ⌝ }
+// A good tick, whose line is laid out but for the word.
+pub(crate) fn put_ok(
+    t: u64,
+    word: u64,
+    pairs: &[u16; 256],
+    line: &mut [u8; 41],
+    from: usize,
+    out: &mut [u8],
+    at: usize,
+) -> usize
+    requires { ⌜ Pairs (now pairs) × Laid (now line) from t × (at < 4294967296) ⌝ }
+    ensures { λ r. ⌜ Laid (now (line .exit)) from t × (now (out .exit) ≡ sets (now (out .entry)) at (okLine t word)) × (r ≡ at + length (okLine t word)) × (length (okLine t word) ≤ 64) ⌝ }
+{
+    store_word(word, pairs, line);
+    let whole = &line[..];
+    put_text(&whole[from..41], out, at)
+}
+
+// A bad tick: the laid line up to its verdict, and the monitor.
+pub(crate) fn put_bad(
+    t: u64,
+    word: u64,
+    monitor: u64,
+    pairs: &[u16; 256],
+    line: &mut [u8; 41],
+    from: usize,
+    out: &mut [u8],
+    at: usize,
+) -> usize
+    requires { ⌜ Pairs (now pairs) × Laid (now line) from t × (at < 4294967296) ⌝ }
     ensures { λ r. ⌜ (now (out .exit) ≡ sets (now (out .entry)) at (badLine t word monitor)) × (r ≡ at + length (badLine t word monitor)) × (length (badLine t word monitor) ≤ 64) ⌝ }
 {
-    let front = put_tick(t, word, out, at);
+    store_word(word, pairs, line);
+    let whole = &line[..];
+    let front = put_text(&whole[from..38], out, at);
     let named = put_text(b"bad ", out, front);
     let numbered = put_decimal(monitor, out, named);
     put(b'\n', out, numbered)

@@ -1,19 +1,23 @@
 // A watch at work on records: for each record the tick and its line (specs/Lines.antt).
+use super::lines::count_on;
+use super::lines::lay;
 use super::lines::put_bad;
 use super::lines::put_ok;
 use super::lines::put_refusal;
+use super::page::pairs;
+use monitor::Moved;
 use monitor::refused_by;
 use monitor::step;
 use rules::Watch;
 use trace::Read;
 use trace::read_record;
 ghost use mathlib.Core.Path.{_≡_};
-ghost use mathlib.Core.Bool.{true};
 ghost use Prim.Native.Nat.{ℕ, _+_, _<_, _≤_, min};
 ghost use lib.Dec.{ltb};
 ghost use lib.ListN.{length, drop};
 ghost use lib.Seq.{sets};
 ghost use Rattle.trace.specs.Record.{readRecord};
+ghost use Rattle.monitor.specs.Calls.{withState};
 ghost use Rattle.sheet.specs.Lines.{run, runOver};
 ghost use Rattle.sheet.specs.Items.{itemOf};
 
@@ -72,6 +76,35 @@ pub struct Ran {
     pub ended: bool,
 }
 
+// What a run comes to, where the watch has moved on.
+fn leave(
+    watch: Watch,
+    state: Moved,
+    ticks: u64,
+    stopped: bool,
+    before: u64,
+    used: usize,
+    at: usize,
+    ended: bool,
+) -> Ran
+    ensures { λ r. ⌜ r ≡ record { watch = withState watch (record { inner = record { marks = state .marks; values = state .values }; oks = ticks; stopped = stopped }); before = before; used = used; at = at; ended = ended } ⌝ }
+{
+    let marks = state.marks;
+    let values = state.values;
+    let mut now = watch;
+    now.marks = marks;
+    now.values = values;
+    now.ticks = ticks;
+    now.stopped = stopped;
+    Ran {
+        watch: now,
+        before,
+        used,
+        at,
+        ended,
+    }
+}
+
 // Runs the watch over the records, and prints a line for each from place `at` on.
 pub(crate) fn run_from(watch: Watch, before: u64, records: &[u8], out: &mut [u8], at: usize) -> Ran
     requires { ⌜ at ≤ 128 ⌝ }
@@ -82,78 +115,69 @@ pub(crate) fn run_from(watch: Watch, before: u64, records: &[u8], out: &mut [u8]
         × (r .at ≡ at + length (runOver (run watch before) (now (records .entry)) .printed))
         × (r .used ≤ length (now (records .entry))) × (r .at ≤ 64000200) ⌝ }
 {
-    let mut now = watch;
+    let digits = pairs();
+    let mut line = [b' '; 41];
+    let mut from = lay(watch.ticks, &mut line);
+    let first = watch.marks;
+    let stored = watch.values;
+    let mut state = Moved {
+        monitor: 0,
+        marks: first,
+        values: stored,
+    };
+    let mut ticks = watch.ticks;
     let mut last = before;
     let mut used: usize = 0;
     let mut place = at;
     loop {
         let next = read_item(&records[used..], last);
         if next.number == 13 {
-            return Ran {
-                watch: now,
-                before: last,
-                used,
-                at: place,
-                ended: false,
-            };
+            return leave(watch, state, ticks, watch.stopped, last, used, place, false);
         }
         if next.number != 0 {
-            let end = put_refusal(next.number, now.ticks, out, place);
-            return Ran {
-                watch: now,
-                before: last,
-                used,
-                at: end,
-                ended: true,
-            };
+            let end = put_refusal(next.number, ticks, out, place);
+            return leave(watch, state, ticks, watch.stopped, last, used, end, true);
         }
         let word = next.word;
-        let number = refused_by(now.stopped, now.ticks, now.wires, word);
+        let number = refused_by(watch.stopped, ticks, watch.wires, word);
         if number != 0 {
-            let end = put_refusal(number, now.ticks, out, place);
-            return Ran {
-                watch: now,
-                before: last,
-                used,
-                at: end,
-                ended: true,
-            };
+            let end = put_refusal(number, ticks, out, place);
+            return leave(watch, state, ticks, watch.stopped, last, used, end, true);
         }
-        let marks = now.marks;
-        let values = now.values;
-        let moved = step(
-            &now.table,
-            &now.look,
-            &now.want,
-            &now.links,
-            &now.numbers,
-            &now.places,
-            &now.own,
-            &now.firsts,
-            now.monitors,
-            now.letters,
+        let marks = state.marks;
+        let values = state.values;
+        state = step(
+            &watch.table,
+            &watch.look,
+            &watch.want,
+            &watch.links,
+            &watch.numbers,
+            &watch.places,
+            &watch.own,
+            &watch.firsts,
+            watch.monitors,
+            watch.letters,
             marks,
             values,
             word,
         );
-        let monitor = moved.monitor;
-        if is_bad(monitor, now.monitors) {
-            let end = put_bad(now.ticks, word, monitor as u64, out, place);
-            now.stopped = true;
-            return Ran {
-                watch: now,
-                before: last,
-                used,
-                at: end,
-                ended: true,
-            };
+        let monitor = state.monitor;
+        if is_bad(monitor, watch.monitors) {
+            let end = put_bad(
+                ticks,
+                word,
+                monitor as u64,
+                &digits,
+                &mut line,
+                from,
+                out,
+                place,
+            );
+            return leave(watch, state, ticks, true, last, used, end, true);
         }
-        place = put_ok(now.ticks, word, out, place);
-        let after = moved.marks;
-        let written = moved.values;
-        now.marks = after;
-        now.values = written;
-        now.ticks = now.ticks + 1;
+        place = put_ok(ticks, word, &digits, &mut line, from, out, place);
+        from = count_on(ticks, from, &mut line);
+        ticks = ticks + 1;
         last = word;
         used += next.length;
     }

@@ -1,6 +1,7 @@
 -- `sheet::page::put_decimal` meets its contract.
 -- Assumes nothing.
 use borrow.Author.Needs.{needs}
+use mathlib.Core.Path.{refl}
 use Rattle.sheet.proofs.PageSteps.{decimal-put}
 use Rattle.sheet.proofs.page.put_decimal.Statement.{statement}
 use Rattle.sheet.proofs.page.put_decimal.Tie as tie
@@ -24,7 +25,11 @@ same-length : tie.Need-same-length
 same-length c = search needs
 
 returns : tie.Need-returns
-returns c = let f = c .before .before .before .before .before .before .fill-decimal in let p = c .before .before .put-text in decimal-put (c .before .before .before .before .before .before .before .before .before .args .n) (c .before .before .before .before .before .before .before .before .before .args .at) (p .result) (f .result) (f .last .1 .0) (c .before .before .before .before .before .before .before .before .before .args .out .now) (p .last .1 .0) (c .before .before .before .before .before .before .before .before .before .fits .n .fits) (f .ensures .0) (f .ensures .2) (p .ensures .0) (p .ensures .1)
+returns c =
+    let f = c .before .before .before .before .before .before .fill-decimal in
+    let p = c .before .before .put-text in
+    let s = c .before .before .before .before .before .before .before .before .before in
+    decimal-put (s .args .n) (s .args .at) (p .result) (f .result) (f .last .1 .0) _ (s .args .out .now) (p .last .1 .0) (s .fits .n .fits) (f .ensures .0) (f .ensures .1) (f .ensures .2) refl (p .ensures .0) (p .ensures .1)
 
 pub put-decimal-spec : {M : Type 1} → statement M
 put-decimal-spec =

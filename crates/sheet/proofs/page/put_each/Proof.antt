@@ -1,4 +1,4 @@
--- `sheet::page::put_text` meets its contract.
+-- `sheet::page::put_each` meets its contract.
 -- Assumes nothing.
 use borrow.Author.Needs.{needs}
 use Prim.Native.Nat.{_≤_, _-_, _+_}
@@ -7,8 +7,8 @@ use lib.Seq.{sets, length-sets}
 use mathlib.Core.Path.{_≡_, ap, _∙_}
 use native.Mathlib.Omega.{arith}
 use Rattle.sheet.proofs.PageSteps.{text-more, text-end}
-use Rattle.sheet.proofs.page.put_text.Statement.{statement}
-use Rattle.sheet.proofs.page.put_text.Tie as tie
+use Rattle.sheet.proofs.page.put_each.Statement.{statement}
+use Rattle.sheet.proofs.page.put_each.Tie as tie
 
 abbrev Inv-loop : tie.InvT-loop
 Inv-loop text out₀ at i₀ place₀ out i place = (i ≤ length text) × (place ≡ at + i) × (sets out₀ at text ≡ sets out place (drop i text))
@@ -40,8 +40,8 @@ same-length c = ap length (text-end (c .before .before .before .before .args .ou
 returns : tie.Need-returns Inv-loop μ-loop
 returns c = (text-end (c .before .before .before .before .args .out .now) (c .before .loop .out) (c .before .before .before .before .args .text .now) (c .before .before .before .before .args .at) (c .before .loop .place) (c .before .loop .i) (omega arith) (c .before .loop .inv .2), (let i = c .before .loop .inv in omega arith))
 
-pub put-text-spec : {M : Type 1} → statement M
-put-text-spec =
+pub put-each-spec : {M : Type 1} → statement M
+put-each-spec =
     tie.close
     (tie.spec
     Inv-loop
