@@ -13,7 +13,7 @@ use borrow.Author.Tests.{lt-ltb, le-ltb, ltb-true, ltb-false}
 use lib.Dec.{ltb}
 use Rattle.meaning.specs.Sheet.{digitsIn, decimal, hexadecimal}
 use Rattle.rules.proofs.Overlay.{sets-behind}
-use Rattle.sheet.specs.Digits.{hexDigit, pairOf, Pairs}
+use Rattle.sheet.specs.Digits.{hexDigit, pairOf}
 
 -- ---- puts behind one another
 

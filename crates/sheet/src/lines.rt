@@ -69,7 +69,7 @@ pub(crate) fn lay(t: u64, line: &mut [u8; 41]) -> usize
     fill_decimal(t, line)
 }
 
-// The line of tick `t` becomes that of the next: of ten times nine only the last digit changes.
+// The line of tick `t` becomes that of the next: nine times of ten only the last digit changes.
 pub(crate) fn count_on(t: u64, from: usize, line: &mut [u8; 41]) -> usize
     requires { ⌜ Laid (now line) from t × (t < 1000000) ⌝ }
     ensures { λ r. ⌜ Laid (now (line .exit)) r (t + 1) ⌝ }
@@ -82,7 +82,7 @@ pub(crate) fn count_on(t: u64, from: usize, line: &mut [u8; 41]) -> usize
     fill_decimal(t + 1, line)
 }
 
-// A good tick, whose line is laid out but for the word.
+// A good tick, whose line is laid out but for the word; its number is named for the contract alone.
 pub(crate) fn put_ok(
     t: u64,
     word: u64,

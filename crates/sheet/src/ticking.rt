@@ -105,7 +105,8 @@ fn leave(
     }
 }
 
-// Runs the watch over the records, and prints a line for each from place `at` on.
+// Runs the watch over the records, and prints a line for each from place `at` on. What moves is kept apart from the watch, which is
+// large, and the line of a good tick from one to the next.
 pub(crate) fn run_from(watch: Watch, before: u64, records: &[u8], out: &mut [u8], at: usize) -> Ran
     requires { ⌜ at ≤ 128 ⌝ }
     ensures { λ r. ⌜ (run (r .watch) (r .before) ≡ runOver (run watch before) (now (records .entry)) .after)

@@ -32,13 +32,23 @@ loop-less : tie.Need-loop-less Inv-loop μ-loop
 loop-less c = search needs
 
 loop-again : tie.Need-loop-again Inv-loop μ-loop
-loop-again c = let l = c .before .before .before .before .before .before .loop in let i = l .inv in (omega arith, omega arith, text-more (c .before .before .before .before .before .before .before .before .before .args .out .now) (l .out) (c .before .before .put .last .1 .0) (c .before .before .before .before .before .before .before .before .before .args .text .now) (c .before .before .before .before .before .before .before .before .before .args .at) (l .place) (c .before .before .put .result) (l .i) (omega arith) (i .2) (c .before .before .put .ensures .0) (c .before .before .put .ensures .1))
+loop-again c =
+    let p = c .before .before .put in
+    let l = c .before .before .before .before .before .before .loop in
+    let a = c .before .before .before .before .before .before .before .before .before .args in
+    (omega arith, omega arith, text-more (a .out .now) (l .out) (p .last .1 .0) (a .text .now) (a .at) (l .place) (p .result) (l .i) (omega arith) (l .inv .2) (p .ensures .0) (p .ensures .1))
 
 same-length : tie.Need-same-length Inv-loop μ-loop
-same-length c = ap length (text-end (c .before .before .before .before .args .out .now) (c .before .loop .out) (c .before .before .before .before .args .text .now) (c .before .before .before .before .args .at) (c .before .loop .place) (c .before .loop .i) (omega arith) (c .before .loop .inv .2)) ∙ length-sets (c .before .before .before .before .args .out .now) (c .before .before .before .before .args .at) (c .before .before .before .before .args .text .now)
+same-length c =
+    let l = c .before .loop in
+    let a = c .before .before .before .before .args in
+    ap length (text-end (a .out .now) (l .out) (a .text .now) (a .at) (l .place) (l .i) (omega arith) (l .inv .2)) ∙ length-sets (a .out .now) (a .at) (a .text .now)
 
 returns : tie.Need-returns Inv-loop μ-loop
-returns c = (text-end (c .before .before .before .before .args .out .now) (c .before .loop .out) (c .before .before .before .before .args .text .now) (c .before .before .before .before .args .at) (c .before .loop .place) (c .before .loop .i) (omega arith) (c .before .loop .inv .2), (let i = c .before .loop .inv in omega arith))
+returns c =
+    let l = c .before .loop in
+    let a = c .before .before .before .before .args in
+    (text-end (a .out .now) (l .out) (a .text .now) (a .at) (l .place) (l .i) (omega arith) (l .inv .2), omega arith)
 
 pub put-each-spec : {M : Type 1} → statement M
 put-each-spec =

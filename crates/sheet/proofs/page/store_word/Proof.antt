@@ -1,7 +1,6 @@
 -- `sheet::page::store_word` meets its contract. Assumes nothing.
 use borrow.Author.Needs.{needs}
 use Prim.Native.Nat.{_≤_, _+_, _*_}
-use lib.ListN.{length}
 use lib.Seq.{sets}
 use mathlib.Core.Path.{_≡_, refl}
 use native.Mathlib.Omega.{arith}

@@ -48,8 +48,9 @@ same-length c = kept (c .before .before .before .before .before .loop .inv .0)
 
 returns : tie.Need-returns Inv-loop μ-loop
 returns c =
-    left-by (c .before .before .before .before .before .loop .inv .0) _ _ _ (c .leave .ensures)
-    (going-end (c .before .before .before .before .before .loop .inv .0) _ (c .before .before .before .read-item .ensures) (c .before .if1 .taken))
+    let i = c .before .before .before in
+    left-by (i .before .before .loop .inv .0) _ _ _ (c .leave .ensures)
+    (going-end (i .before .before .loop .inv .0) _ (i .read-item .ensures) (c .before .if1 .taken))
 
 put-refusal-requires : tie.Need-put-refusal-requires Inv-loop μ-loop
 put-refusal-requires c κs = search needs
@@ -58,12 +59,18 @@ leave-requires-2 : tie.Need-leave-requires-2 Inv-loop μ-loop
 leave-requires-2 c κs = search needs
 
 same-length-2 : tie.Need-same-length-2 Inv-loop μ-loop
-same-length-2 c = kept-put (c .before .before .before .before .before .before .before .before .before .before .before .loop .inv .0) _ (refusalLine _ (_ ∷ [])) (c .before .before .before .put-refusal .ensures .0)
+same-length-2 c =
+    let p = c .before .before .before in
+    let l = p .before .before .before .before .before .before .before .before in
+    kept-put (l .loop .inv .0) _ (refusalLine _ (_ ∷ [])) (p .put-refusal .ensures .0)
 
 returns-2 : tie.Need-returns-2 Inv-loop μ-loop
 returns-2 c =
-    left-by (c .before .before .before .before .before .before .before .before .before .before .before .loop .inv .0) _ _ _ (c .leave2 .ensures)
-    (going-idle (c .before .before .before .before .before .before .before .before .before .before .before .loop .inv .0) _ (c .before .before .before .before .before .before .before .before .before .read-item .ensures) (c .before .before .before .before .before .before .before .if1 .left) (c .before .before .before .before .before .if2 .taken) _ _ (c .before .before .before .put-refusal .ensures .0) (c .before .before .before .put-refusal .ensures .1) (c .before .before .before .put-refusal .ensures .2))
+    let p = c .before .before .before in
+    let n = p .before .before in
+    let i = n .before .before .before .before in
+    left-by (i .before .before .loop .inv .0) _ _ _ (c .leave2 .ensures)
+    (going-idle (i .before .before .loop .inv .0) _ (i .read-item .ensures) (n .before .before .if1 .left) (n .if2 .taken) _ _ (p .put-refusal .ensures .0) (p .put-refusal .ensures .1) (p .put-refusal .ensures .2))
 
 refused-by-requires : tie.Need-refused-by-requires Inv-loop μ-loop
 refused-by-requires c κs = search needs
@@ -75,12 +82,18 @@ leave-requires-3 : tie.Need-leave-requires-3 Inv-loop μ-loop
 leave-requires-3 c κs = search needs
 
 same-length-3 : tie.Need-same-length-3 Inv-loop μ-loop
-same-length-3 c = kept-put (c .before .before .before .before .before .before .before .before .before .before .before .before .before .loop .inv .0) _ (refusalLine _ (_ ∷ [])) (c .before .before .before .put-refusal2 .ensures .0)
+same-length-3 c =
+    let p = c .before .before .before in
+    let l = p .before .before .before .before .before .before .before .before .before .before in
+    kept-put (l .loop .inv .0) _ (refusalLine _ (_ ∷ [])) (p .put-refusal2 .ensures .0)
 
 returns-3 : tie.Need-returns-3 Inv-loop μ-loop
 returns-3 c =
-    left-by (c .before .before .before .before .before .before .before .before .before .before .before .before .before .loop .inv .0) _ _ _ (c .leave3 .ensures)
-    (going-refused (c .before .before .before .before .before .before .before .before .before .before .before .before .before .loop .inv .0) _ (c .before .before .before .before .before .before .before .before .before .before .before .read-item .ensures) (c .before .before .before .before .before .before .before .if2 .left) _ (c .before .before .before .before .before .before .refused-by .ensures) (c .before .before .before .before .before .if3 .taken) _ _ (c .before .before .before .put-refusal2 .ensures .0) (c .before .before .before .put-refusal2 .ensures .1) (c .before .before .before .put-refusal2 .ensures .2))
+    let p = c .before .before .before in
+    let d = p .before .before in
+    let i = d .before .before .before .before .before .before in
+    left-by (i .before .before .loop .inv .0) _ _ _ (c .leave3 .ensures)
+    (going-refused (i .before .before .loop .inv .0) _ (i .read-item .ensures) (d .before .before .if2 .left) _ (d .before .refused-by .ensures) (d .if3 .taken) _ _ (p .put-refusal2 .ensures .0) (p .put-refusal2 .ensures .1) (p .put-refusal2 .ensures .2))
 
 step-requires : tie.Need-step-requires Inv-loop μ-loop
 step-requires c κs = search needs
@@ -90,38 +103,65 @@ is-bad-requires c κs = search needs
 
 put-bad-requires : tie.Need-put-bad-requires Inv-loop μ-loop
 put-bad-requires c κs =
-    (c .before .before .before .before .before .before .before .before .before .before .before .before .before .before .before .before .before .before .before .before .before .before .before .before .before .before .before .before .before .before .pairs .ensures, c .before .before .before .before .before .before .before .before .before .before .before .before .before .before .before .before .before .before .before .before .before .before .before .before .before .loop .inv .1, omega (arith, c .before .before .before .before .before .before .before .before .before .before .before .before .before .before .before .before .before .before .before .before .before .before .before .before .before .loop .inv .0 .few))
+    let l = c .before .before .before .before .before .before .before .before .before .before .before .before .before .before .before .before .before .before .before .before .before .before .before .before .before in
+    (l .before .before .before .before .before .pairs .ensures, l .loop .inv .1, omega (arith, l .loop .inv .0 .few))
 
 leave-requires-4 : tie.Need-leave-requires-4 Inv-loop μ-loop
 leave-requires-4 c κs = search needs
 
 same-length-4 : tie.Need-same-length-4 Inv-loop μ-loop
-same-length-4 c = kept-put (c .before .before .before .before .before .before .before .before .before .before .before .before .before .before .before .before .before .before .before .before .before .before .before .before .before .before .before .before .before .loop .inv .0) _ (badLine _ _ _) (c .before .before .before .put-bad .ensures .0)
+same-length-4 c =
+    let p = c .before .before .before in
+    let l = p .before .before .before .before .before .before .before .before .before .before .before .before .before .before .before .before .before .before .before .before .before .before .before .before .before .before in
+    kept-put (l .loop .inv .0) _ (badLine _ _ _) (p .put-bad .ensures .0)
 
 returns-4 : tie.Need-returns-4 Inv-loop μ-loop
 returns-4 c =
-    left-by (c .before .before .before .before .before .before .before .before .before .before .before .before .before .before .before .before .before .before .before .before .before .before .before .before .before .before .before .before .before .loop .inv .0) _ _ _ (c .leave4 .ensures)
-    (going-bad (c .before .before .before .before .before .before .before .before .before .before .before .before .before .before .before .before .before .before .before .before .before .before .before .before .before .before .before .before .before .loop .inv .0) _ (c .before .before .before .before .before .before .before .before .before .before .before .before .before .before .before .before .before .before .before .before .before .before .before .before .before .before .before .read-item .ensures) (c .before .before .before .before .before .before .before .before .before .before .before .before .before .before .before .before .before .before .before .before .before .before .before .if2 .left) _ (c .before .before .before .before .before .before .before .before .before .before .before .before .before .before .before .before .before .before .before .before .before .before .refused-by .ensures) (c .before .before .before .before .before .before .before .before .before .before .before .before .before .before .before .before .before .before .before .before .before .if3 .left) _ _ _ (c .before .before .before .before .before .before .before .before .before .step .ensures) _ (c .before .before .before .before .before .before .before .before .is-bad .ensures) (c .before .before .before .before .before .before .before .if4 .taken) _ _ (c .before .before .before .put-bad .ensures .0) (c .before .before .before .put-bad .ensures .1) (c .before .before .before .put-bad .ensures .2))
+    let p = c .before .before .before in
+    let e = p .before .before .before .before in
+    let b = e .before in
+    let d = b .before .before .before .before .before .before .before .before .before .before .before .before .before in
+    let i = d .before .before .before .before .before .before in
+    left-by (i .before .before .loop .inv .0) _ _ _ (c .leave4 .ensures)
+    (going-bad (i .before .before .loop .inv .0) _ (i .read-item .ensures) (d .before .before .if2 .left) _ (d .before .refused-by .ensures) (d .if3 .left) _ _ _ (b .before .step .ensures) _ (b .is-bad .ensures) (e .if4 .taken) _ _ (p .put-bad .ensures .0) (p .put-bad .ensures .1) (p .put-bad .ensures .2))
 
 put-ok-requires : tie.Need-put-ok-requires Inv-loop μ-loop
 put-ok-requires c κs =
-    (c .before .before .before .before .before .before .before .before .before .before .before .before .before .before .before .before .before .before .before .before .before .before .before .before .before .before .before .before .before .before .pairs .ensures, c .before .before .before .before .before .before .before .before .before .before .before .before .before .before .before .before .before .before .before .before .before .before .before .before .before .loop .inv .1, omega (arith, c .before .before .before .before .before .before .before .before .before .before .before .before .before .before .before .before .before .before .before .before .before .before .before .before .before .loop .inv .0 .few))
+    let l = c .before .before .before .before .before .before .before .before .before .before .before .before .before .before .before .before .before .before .before .before .before .before .before .before .before in
+    (l .before .before .before .before .before .pairs .ensures, l .loop .inv .1, omega (arith, l .loop .inv .0 .few))
 
 count-on-requires : tie.Need-count-on-requires Inv-loop μ-loop
-count-on-requires c κs = (c .before .before .before .put-ok .ensures .0, going-few (c .before .before .before .before .before .before .before .before .before .before .before .before .before .before .before .before .before .before .before .before .before .before .before .before .before .before .before .before .before .loop .inv .0) _ (c .before .before .before .before .before .before .before .before .before .before .before .before .before .before .before .before .before .before .before .before .before .before .before .before .before .before .before .read-item .ensures) (c .before .before .before .before .before .before .before .before .before .before .before .before .before .before .before .before .before .before .before .before .before .before .before .if2 .left) _ (c .before .before .before .before .before .before .before .before .before .before .before .before .before .before .before .before .before .before .before .before .before .before .refused-by .ensures) (c .before .before .before .before .before .before .before .before .before .before .before .before .before .before .before .before .before .before .before .before .before .if3 .left))
+count-on-requires c κs =
+    let p = c .before .before .before in
+    let d = p .before .before .before .before .before .before .before .before .before .before .before .before .before .before .before .before .before .before in
+    let i = d .before .before .before .before .before .before in
+    (p .put-ok .ensures .0, going-few (i .before .before .loop .inv .0) _ (i .read-item .ensures) (d .before .before .if2 .left) _ (d .before .refused-by .ensures) (d .if3 .left))
 
 add-ticks : tie.Need-add-ticks Inv-loop μ-loop
-add-ticks c = omega (arith, going-few (c .before .before .before .before .before .before .before .before .before .before .before .before .before .before .before .before .before .before .before .before .before .before .before .before .before .before .before .before .before .before .loop .inv .0) _ (c .before .before .before .before .before .before .before .before .before .before .before .before .before .before .before .before .before .before .before .before .before .before .before .before .before .before .before .before .read-item .ensures) (c .before .before .before .before .before .before .before .before .before .before .before .before .before .before .before .before .before .before .before .before .before .before .before .before .if2 .left) _ (c .before .before .before .before .before .before .before .before .before .before .before .before .before .before .before .before .before .before .before .before .before .before .before .refused-by .ensures) (c .before .before .before .before .before .before .before .before .before .before .before .before .before .before .before .before .before .before .before .before .before .before .if3 .left))
+add-ticks c =
+    let d = c .before .before .before .before .before .before .before .before .before .before .before .before .before .before .before .before .before .before .before .before .before .before in
+    let i = d .before .before .before .before .before .before in
+    omega (arith, going-few (i .before .before .loop .inv .0) _ (i .read-item .ensures) (d .before .before .if2 .left) _ (d .before .refused-by .ensures) (d .if3 .left))
 
 loop-again : tie.Need-loop-again Inv-loop μ-loop
 loop-again c =
-    (going-ok (c .before .before .before .before .before .before .before .before .before .before .before .before .before .before .before .before .before .before .before .before .before .before .before .before .before .before .before .before .before .before .before .loop .inv .0) _ (c .before .before .before .before .before .before .before .before .before .before .before .before .before .before .before .before .before .before .before .before .before .before .before .before .before .before .before .before .before .read-item .ensures) (c .before .before .before .before .before .before .before .before .before .before .before .before .before .before .before .before .before .before .before .before .before .before .before .before .before .if2 .left) _ (c .before .before .before .before .before .before .before .before .before .before .before .before .before .before .before .before .before .before .before .before .before .before .before .before .refused-by .ensures) (c .before .before .before .before .before .before .before .before .before .before .before .before .before .before .before .before .before .before .before .before .before .before .before .if3 .left) _ _ _ (c .before .before .before .before .before .before .before .before .before .before .before .step .ensures) _ (c .before .before .before .before .before .before .before .before .before .before .is-bad .ensures) (c .before .before .before .before .before .before .before .before .before .if4 .left) _ _ (c .before .before .before .before .before .put-ok .ensures .1) (c .before .before .before .before .before .put-ok .ensures .2) (c .before .before .before .before .before .put-ok .ensures .3), c .before .count-on .ensures)
+    let p = c .before .before .before .before .before in
+    let e = p .before .before .before .before in
+    let b = e .before in
+    let d = b .before .before .before .before .before .before .before .before .before .before .before .before .before in
+    let i = d .before .before .before .before .before .before in
+    (going-ok (i .before .before .loop .inv .0) _ (i .read-item .ensures) (d .before .before .if2 .left) _ (d .before .refused-by .ensures) (d .if3 .left) _ _ _ (b .before .step .ensures) _ (b .is-bad .ensures) (e .if4 .left) _ _ (p .put-ok .ensures .1) (p .put-ok .ensures .2) (p .put-ok .ensures .3), c .before .count-on .ensures)
 
 add-used : tie.Need-add-used Inv-loop μ-loop
-add-used c = omega (arith, loop-again c .0 .within, c .before .before .before .before .before .before .before .before .before .before .before .before .before .before .before .before .before .before .before .before .before .before .before .before .before .before .before .before .before .before .before .before .before .before .before .before .before .before .before .good .1 .1 .0 .0)
+add-used c =
+    let s = c .before .before .before .before .before .before .before .before .before .before .before .before .before .before .before .before .before .before .before .before .before .before .before .before .before .before .before .before .before .before .before .before .before .before .before .before .before .before .before in
+    omega (arith, loop-again c .0 .within, s .good .1 .1 .0 .0)
 
 loop-less : tie.Need-loop-less Inv-loop μ-loop
-loop-less c = going-less (c .before .before .before .before .before .before .before .before .before .before .before .before .before .before .before .before .before .before .before .before .before .before .before .before .before .before .before .before .before .before .before .loop .inv .0) _ (c .before .before .before .before .before .before .before .before .before .before .before .before .before .before .before .before .before .before .before .before .before .before .before .before .before .before .before .before .before .read-item .ensures) (c .before .before .before .before .before .before .before .before .before .before .before .before .before .before .before .before .before .before .before .before .before .before .before .before .before .if2 .left)
+loop-less c =
+    let d = c .before .before .before .before .before .before .before .before .before .before .before .before .before .before .before .before .before .before .before .before .before .before .before in
+    let i = d .before .before .before .before .before .before in
+    going-less (i .before .before .loop .inv .0) _ (i .read-item .ensures) (d .before .before .if2 .left)
 
 pub run-from-spec : {M : Type 1} → statement M
 run-from-spec =
