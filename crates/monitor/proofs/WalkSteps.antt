@@ -5,11 +5,10 @@ use mathlib.Core.List.{List}
 use Prim.Native.Nat.{ℕ, suc, _+_, _-_, _<_, _≤_}
 use native.Mathlib.Omega.{arith}
 use borrow.Author.Tests.{eq-eqb, ne-eqb, le-leb, lt-leb, not-true, not-false}
-use lib.Dec.{eqb}
 use lib.ListN.{getD, set}
 use Rattle.words.specs.Words.{part0, part1, part2, part3}
 use Rattle.monitor.specs.Letters.{Given, letterMet}
-use Rattle.monitor.specs.Walk.{Came, came, Told, told, Entry, Call, enterLetter, enterSecond, enterOn, enterM, leaveTo, leaveOn, askM, leaveM}
+use Rattle.monitor.specs.Walk.{Came, came, Told, told, Entry, enterLetter, enterSecond, enterOn, enterM, leaveTo, leaveOn, askM, leaveM}
 
 -- ---- a letter is entered
 

@@ -28,20 +28,21 @@ ghost use Rattle.rules.specs.Watches.{noLists, lettersFrom, watchBy, wat
 // A watch. Each row in one word, and letters, as `lay` has them (specs/Laying.antt); each letter's row; each
 // monitor's own row and first letter; how many rows, letters, monitors, wires and stores there are; the store values; a mark
 // for each active letter and, from 256 on, for each monitor at its start; how many ticks were ok, and whether one was bad.
+// Between large arrays stands a number: the compiler then copies each array to its place, without a whole watch on the way.
 pub struct Watch {
     pub table: [u64; 1024],
+    pub rows: usize,
     pub look: [u64; 256],
+    pub letters: usize,
     pub want: [u64; 256],
+    pub monitors: usize,
     pub links: [u64; 1024],
+    pub wires: usize,
     pub numbers: [u64; 1024],
+    pub stores: usize,
     pub places: [u16; 256],
     pub own: [u16; 32],
     pub firsts: [u16; 32],
-    pub rows: usize,
-    pub letters: usize,
-    pub monitors: usize,
-    pub wires: usize,
-    pub stores: usize,
     pub values: [u64; 16],
     pub marks: [u8; 288],
     pub ticks: u64,
@@ -212,6 +213,30 @@ fn open_in(text: &[u8], words: &mut [u64]) -> Start
     }
 }
 
+// Opens a text of up to 4,096 bytes. It calls itself, which never happens, so that no caller's frame holds its words.
+fn open_middle(text: &[u8]) -> Start
+    requires { ⌜ length (now text) ≤ 4096 ⌝ }
+    ensures { λ r. ⌜ (shownOutcome (r .outcome) ≡ countsOf (openText (now (text .entry)))) × (r .watch ≡ watchOf (openText (now (text .entry)))) ⌝ }
+{
+    let mut words = [0u64; 12290];
+    if text.len() > 4096 {
+        return open_middle(text);
+    }
+    open_in(text, &mut words)
+}
+
+// Opens a text of up to 16,384 bytes. It calls itself, which never happens, so that no caller's frame holds its words.
+fn open_large(text: &[u8]) -> Start
+    requires { ⌜ length (now text) ≤ 16384 ⌝ }
+    ensures { λ r. ⌜ (shownOutcome (r .outcome) ≡ countsOf (openText (now (text .entry)))) × (r .watch ≡ watchOf (openText (now (text .entry)))) ⌝ }
+{
+    let mut words = [0u64; 49154];
+    if text.len() > 16384 {
+        return open_large(text);
+    }
+    open_in(text, &mut words)
+}
+
 // Opens a rule text: a watch with tick count 0, the first store values and each monitor at its start, and both counts; or
 // the refusal. The words that it is read into are few where the text is short.
 pub fn open(text: &[u8]) -> Start
@@ -220,14 +245,12 @@ pub fn open(text: &[u8]) -> Start
     if 16384 < text.len() {
         return refusal(Outcome::AtByte(1, 0));
     }
-    if text.len() <= 512 {
-        let mut words = [0u64; 1538];
-        return open_in(text, &mut words);
+    if 4096 < text.len() {
+        return open_large(text);
     }
-    if text.len() <= 4096 {
-        let mut words = [0u64; 12290];
-        return open_in(text, &mut words);
+    if 512 < text.len() {
+        return open_middle(text);
     }
-    let mut words = [0u64; 49154];
+    let mut words = [0u64; 1538];
     open_in(text, &mut words)
 }

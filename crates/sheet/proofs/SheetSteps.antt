@@ -18,7 +18,7 @@ use Rattle.rules.specs.declared.Outcome.{Outcome}
 use Rattle.rules.specs.declared.Watch.{Watch}
 use Rattle.rules.specs.Watches.{watchOf, shownOutcome}
 use Rattle.rules.proofs.Overlay.{sets-behind}
-use Rattle.sheet.specs.Lines.{Run, run, Ran, runOver, lastLine, closed, isRefused, sheetOf}
+use Rattle.sheet.specs.Lines.{Run, run, Ran, runOver, lastLine, closed, isRefused}
 use Rattle.sheet.proofs.Lengths as lengths
 use Rattle.sheet.proofs.Printed.{sheet-printed}
 
@@ -69,58 +69,71 @@ module _ (a : meaning.Answer Opened) (x : meaning.Answer Counts) (d : x ≡ coun
 
 -- ---- the sheet
 
-module _ (text records out first : List ℕ) (n : ℕ) (b : Bool) (e : first ≡ sets out 0 (firstLine (countsOf (openText text)))) (f : n ≡ length (firstLine (countsOf (openText text))))
-    (d : b ≡ isRefused (openText text)) where
-  abbrev Sheet : (new : List ℕ) → (r : ℕ) → Type 0
-  Sheet new r = (new ≡ sets out 0 (sheet text records)) × (r ≡ length (sheet text records))
+-- what stands behind the first line, where opening answered x with the watch v
+abbrev rest : (x : meaning.Answer Counts) → (v : Watch) → (records : List ℕ) → List ℕ
+rest x v records = cond (isRefused x) [] (closed (runOver (run v 0) records))
 
-  abbrev line : List ℕ
-  line = firstLine (countsOf (openText text))
+-- it is printed from place n on
+module _ (x : meaning.Answer Counts) (v : Watch) (records first : List ℕ) (n : ℕ) (b : Bool) (d : b ≡ isRefused x) where
+  abbrev Rest : (new : List ℕ) → (r : ℕ) → Type 0
+  Rest new r = (new ≡ sets first n (rest x v records)) × (r ≡ n + length (rest x v records))
 
-  abbrev ran : Ran
-  ran = runOver (run (watchOf (openText text)) 0) records
+  by-lines : (more new : List ℕ) (r : ℕ) → more ≡ rest x v records → new ≡ sets first n more → r ≡ n + length more → Rest new r
+  by-lines more new r h p q = (p ∙ ap (sets first n) h, q ∙ ap (λ (l : List ℕ). n + length l) h)
 
-  -- what is printed behind the first line
-  behind : (more new : List ℕ) (r : ℕ) → line ++ more ≡ sheetOf (openText text) records → new ≡ sets first n more → r ≡ n + length more → Sheet new r
-  behind more new r h p q =
-      let z : line ++ more ≡ sheet text records = h ∙ sheet-printed text records in
-      let g = length-append line more in (
-        p ∙ ap (λ (l : List ℕ). sets l n more) e ∙ sets-behind out 0 n line more (sheet text records) (omega (arith, f)) (sym z),
-        (let w : r ≡ length (line ++ more) = omega (arith, q, f, g) in w ∙ ap length z),
-      )
+  pub rest-refused : b ≡ true → Rest first n
+  rest-refused y =
+      by-lines [] first n (ap (λ (c : Bool). cond c [] (closed (runOver (run v 0) records))) (sym y ∙ d)) refl (omega arith)
 
-  pub sheet-refused : b ≡ true → Sheet first n
-  sheet-refused y = behind [] first n (ap (λ (x : Bool). line ++ cond x [] (closed ran)) (sym y ∙ d)) refl (omega arith)
+  -- u is what the run over the records came to
+  module _ (y : b ≡ false) (u : Ran) (g : u ≡ runOver (run v 0) records) where
+    opened : (more : List ℕ) → more ≡ closed u → more ≡ rest x v records
+    opened more h = h ∙ ap closed g ∙ ap (λ (c : Bool). cond c [] (closed (runOver (run v 0) records))) (sym y ∙ d)
 
-  -- x is what the run over the records came to
-  module _ (y : b ≡ false) (v : Watch) (w : v ≡ watchOf (openText text)) (x : Ran) (g : x ≡ runOver (run v 0) records) where
-    opened : (more : List ℕ) → more ≡ closed x → line ++ more ≡ sheetOf (openText text) records
-    opened more h =
-        ap (λ (l : List ℕ). line ++ l) (h ∙ ap closed (g ∙ ap (λ (u : Watch). runOver (run u 0) records) w))
-        ∙ ap (λ (c : Bool). line ++ cond c [] (closed ran)) (sym y ∙ d)
+    module _ (ended : Bool) (new : List ℕ) (r : ℕ) (c : ended ≡ u .ended) (p : new ≡ sets first n (u .printed)) (q : r ≡ n + length (u .printed)) where
+      pub rest-ended : ended ≡ true → Rest new r
+      rest-ended t =
+          by-lines (u .printed) new r
+          (opened (u .printed) (sym (append-nil (u .printed)) ∙ ap (λ (z : Bool). u .printed ++ cond z [] (lastLine (u .after .watch .ticks) (length (u .left)))) (sym t ∙ c))) p q
 
-    module _ (ended : Bool) (new : List ℕ) (r : ℕ) (c : ended ≡ x .ended) (p : new ≡ sets first n (x .printed)) (q : r ≡ n + length (x .printed)) where
-      pub sheet-ended : ended ≡ true → Sheet new r
-      sheet-ended t =
-          behind (x .printed) new r
-          (opened (x .printed) (sym (append-nil (x .printed)) ∙ ap (λ (z : Bool). x .printed ++ cond z [] (lastLine (x .after .watch .ticks) (length (x .left)))) (sym t ∙ c))) p q
+      -- the ticks of the run a, and the bytes that are left
+      pub rest-closed : ended ≡ false → (a : Run) (used : ℕ) → a ≡ u .after → drop used records ≡ u .left → (last : List ℕ) (k : ℕ)
+          → last ≡ sets new r (lastLine (a .watch .ticks) (length records - used)) → k ≡ r + length (lastLine (a .watch .ticks) (length records - used)) → Rest last k
+      rest-closed t a used i j last k e h =
+          let l = lastLine (a .watch .ticks) (length records - used) in
+          let o = length-append (u .printed) l in
+          by-lines (u .printed ++ l) last k
+          (opened (u .printed ++ l)
+          (ap₂ (λ (s : Run) (m : ℕ). u .printed ++ lastLine (s .watch .ticks) m) i (sym (length-drop used records) ∙ ap length j)
+          ∙ ap (λ (z : Bool). u .printed ++ cond z [] (lastLine (u .after .watch .ticks) (length (u .left)))) (sym t ∙ c)))
+          (e ∙ ap (λ (m : List ℕ). sets m r l) p ∙ sets-behind first n r (u .printed) l (u .printed ++ l) q refl) (omega (arith, h, q, o))
 
-      -- the ticks of the run u, and the bytes that are left
-      pub sheet-closed : ended ≡ false → (u : Run) (used : ℕ) → u ≡ x .after → drop used records ≡ x .left → (last : List ℕ) (k : ℕ)
-          → last ≡ sets new r (lastLine (u .watch .ticks) (length records - used)) → k ≡ r + length (lastLine (u .watch .ticks) (length records - used)) → Sheet last k
-      sheet-closed t u used i j last k g h =
-          let l = lastLine (u .watch .ticks) (length records - used) in
-          let o = length-append (x .printed) l in
-          behind (x .printed ++ l) last k
-          (opened (x .printed ++ l)
-          (ap₂ (λ (s : Run) (n : ℕ). x .printed ++ lastLine (s .watch .ticks) n) i (sym (length-drop used records) ∙ ap length j)
-          ∙ ap (λ (z : Bool). x .printed ++ cond z [] (lastLine (x .after .watch .ticks) (length (x .left)))) (sym t ∙ c)))
-          (g ∙ ap (λ (m : List ℕ). sets m r l) p ∙ sets-behind first n r (x .printed) l (x .printed ++ l) q refl) (omega (arith, h, q, o))
+-- the first line and the rest behind it are the sheet
+module _ (text records : List ℕ) (x : meaning.Answer Counts) (v : Watch) (d : x ≡ countsOf (openText text)) (w : v ≡ watchOf (openText text)) (n : ℕ)
+    (f : n ≡ length (firstLine x)) (r : ℕ) (q : r ≡ n + length (rest x v records)) where
+  joined : firstLine x ++ rest x v records ≡ sheet text records
+  joined =
+      let a = openText text in
+      ap₂ (λ (y : meaning.Answer Counts) (u : Watch). firstLine y ++ rest y u records) d w
+      ∙ ap (λ (c : Bool). firstLine (countsOf a) ++ cond c [] (closed (runOver (run (watchOf a) 0) records))) (counts-refused a)
+      ∙ sheet-printed text records
 
--- the sheet is short, behind a first line that is
-pub sheet-bound : (text records : List ℕ) (n at : ℕ) → at ≡ length (firstLine (countsOf (openText text))) → at ≤ 128 → n ≡ length (sheet text records)
-    → n ≤ 192 + 64 * min (length records) 1000000
-sheet-bound text records n at p q e = let h = lengths.sheet-short text records (omega (arith, p, q)) in omega (arith, e, h)
+  pub sheet-long : r ≡ length (sheet text records)
+  sheet-long =
+      let g = length-append (firstLine x) (rest x v records) in
+      let k : r ≡ length (firstLine x ++ rest x v records) = omega (arith, q, f, g) in k ∙ ap length joined
+
+  -- it is short, behind a first line that is
+  pub sheet-bound : n ≤ 128 → r ≤ 192 + 64 * min (length records) 1000000
+  sheet-bound l =
+      let e = ap (λ (y : meaning.Answer Counts). length (firstLine y)) d in
+      let h = lengths.sheet-short text records (omega (arith, f, e, l)) in
+      omega (arith, sheet-long, h)
+
+  pub sheet-whole : (out first new : List ℕ) → first ≡ sets out 0 (firstLine x) → new ≡ sets first n (rest x v records) → new ≡ sets out 0 (sheet text records)
+  sheet-whole out first new e p =
+      p ∙ ap (λ (l : List ℕ). sets l n (rest x v records)) e
+      ∙ sets-behind out 0 n (firstLine x) (rest x v records) (sheet text records) (omega (arith, f)) (sym joined)
 
 -- ---- the lent range
 

@@ -9,6 +9,7 @@ use lines::put_counts;
 use lines::put_refusal;
 use lines::put_refusal_at;
 use rules::Outcome;
+use rules::Start;
 use rules::Watch;
 use rules::open;
 pub use ticking::Ran;
@@ -18,11 +19,12 @@ ghost use Prim.Native.Nat.{ℕ, _+_, _*_, _<_, _≤_, min};
 ghost use lib.Dec.{leb};
 ghost use lib.ListN.{length, drop};
 ghost use lib.Seq.{sets};
-ghost use mathlib.Core.List.{List};
+ghost use mathlib.Core.Bool.{cond};
+ghost use mathlib.Core.List.{List, []};
 ghost use Rattle.trace.specs.Record.{written};
 ghost use Rattle.trace.specs.Whole.{lend, numberOrZero};
-ghost use Rattle.meaning.specs.Sheet.{firstLine, sheet, lentSheet, lentLength};
-ghost use Rattle.sheet.specs.Lines.{run, runOver, lastLine, isRefused};
+ghost use Rattle.meaning.specs.Sheet.{firstLine, lentSheet, lentLength};
+ghost use Rattle.sheet.specs.Lines.{run, runOver, lastLine, closed, isRefused};
 ghost use Rattle.meaning.specs.Opening.{countsOf, openText};
 ghost use Rattle.rules.specs.Watches.{watchOf, shownOutcome};
 
@@ -104,16 +106,18 @@ pub fn finish(ticks: u64, left: usize, out: &mut [u8]) -> usize
     put_last(ticks, left, out, 0)
 }
 
-// Prints the sheet into a range, as far as it reaches, and tells the sheet's length.
-fn print(text: &[u8], records: &[u8], out: &mut [u8]) -> usize
-    ensures { λ r. ⌜ (now (out .exit) ≡ sets (now (out .entry)) 0 (sheet (now (text .entry)) (now (records .entry)))) × (r ≡ length (sheet (now (text .entry)) (now (records .entry)))) × (r ≤ 192 + 64 * min (length (now (records .entry))) 1000000) ⌝ }
+// Prints what stands behind the first line, from place `at` on and as far as the range reaches, and tells the sheet's length.
+fn print_rest(start: Start, records: &[u8], out: &mut [u8], at: usize) -> usize
+    requires { ⌜ at ≤ 128 ⌝ }
+    ensures { λ r. ⌜ (now (out .exit) ≡ sets (now (out .entry)) at (cond (isRefused (shownOutcome (start .outcome))) [] (closed (runOver (run (start .watch) 0) (now (records .entry))))))
+        × (r ≡ at + length (cond (isRefused (shownOutcome (start .outcome))) [] (closed (runOver (run (start .watch) 0) (now (records .entry)))))) ⌝ }
 {
-    let begun = begin(text, out);
-    if begun.ended {
-        return begun.at;
+    let outcome = start.outcome;
+    if refused(outcome) {
+        return at;
     }
-    let watch = begun.watch;
-    let ran = run_from(watch, 0, records, out, begun.at);
+    let watch = start.watch;
+    let ran = run_from(watch, 0, records, out, at);
     if ran.ended {
         return ran.at;
     }
@@ -137,15 +141,20 @@ fn surely_fits(records: usize, room: usize) -> bool
 pub extern "C" fn linewatch_sheet(text: &[u8], records: &[u8], sheet: &mut [u8]) -> usize
     ensures { λ r. ⌜ (r ≡ lentLength (now (text .entry)) (now (records .entry)) (now (sheet .entry))) × (now (sheet .exit) ≡ lentSheet (now (text .entry)) (now (records .entry)) (now (sheet .entry)) .list) ⌝ }
 {
+    let start = open(text);
+    let outcome = start.outcome;
     if surely_fits(records.len(), sheet.len()) {
-        return print(text, records, sheet);
+        let at = put_first(outcome, sheet);
+        return print_rest(start, records, sheet, at);
     }
     let mut none = [0u8; 1];
-    let long = print(text, records, &mut none[0..0]);
+    let first = put_first(outcome, &mut none[0..0]);
+    let long = print_rest(start, records, &mut none[0..0], first);
     if sheet.len() < long {
         return 0;
     }
-    print(text, records, sheet)
+    let at = put_first(outcome, sheet);
+    print_rest(start, records, sheet, at)
 }
 
 // The record of a word, for C: `trace`'s.

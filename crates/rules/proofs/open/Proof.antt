@@ -14,32 +14,26 @@ refusal-requires c κs = search needs
 returns : tie.Need-returns
 returns c = let r = right-long _ (c .before .if1 .taken) _ _ (c .refusal .ensures .0) (c .refusal .ensures .1) in (r .outcome, r .watch)
 
+open-large-requires : tie.Need-open-large-requires
+open-large-requires c κs = omega arith
+
+returns-2 : tie.Need-returns-2
+returns-2 c = c .open-large .ensures
+
+open-middle-requires : tie.Need-open-middle-requires
+open-middle-requires c κs = omega arith
+
+returns-3 : tie.Need-returns-3
+returns-3 c = c .open-middle .ensures
+
 slice-aggregate-open-in : tie.Need-slice-aggregate-open-in
 slice-aggregate-open-in c = search needs
 
 open-in-requires : tie.Need-open-in-requires
 open-in-requires c κs = let e = length-replicate {A = ℕ} 1538 0 in (omega arith, omega (arith, e), omega (arith, e))
 
-returns-2 : tie.Need-returns-2
-returns-2 c = (c .before .open-in .ensures .0, c .before .open-in .ensures .1)
-
-slice-aggregate-open-in-2 : tie.Need-slice-aggregate-open-in-2
-slice-aggregate-open-in-2 c = search needs
-
-open-in-requires-2 : tie.Need-open-in-requires-2
-open-in-requires-2 c κs = let e = length-replicate {A = ℕ} 12290 0 in (omega arith, omega (arith, e), omega (arith, e))
-
-returns-3 : tie.Need-returns-3
-returns-3 c = (c .before .open-in2 .ensures .0, c .before .open-in2 .ensures .1)
-
-slice-aggregate-open-in-3 : tie.Need-slice-aggregate-open-in-3
-slice-aggregate-open-in-3 c = search needs
-
-open-in-requires-3 : tie.Need-open-in-requires-3
-open-in-requires-3 c κs = let e = length-replicate {A = ℕ} 49154 0 in (omega arith, omega (arith, e), omega (arith, e))
-
 returns-4 : tie.Need-returns-4
-returns-4 c = (c .before .open-in3 .ensures .0, c .before .open-in3 .ensures .1)
+returns-4 c = (c .before .open-in .ensures .0, c .before .open-in .ensures .1)
 
 pub open-spec : {M : Type 1} → statement M
 open-spec =
@@ -47,12 +41,10 @@ open-spec =
     (tie.spec
     refusal-requires
     returns
+    open-large-requires
+    returns-2
+    open-middle-requires
+    returns-3
     slice-aggregate-open-in
     open-in-requires
-    returns-2
-    slice-aggregate-open-in-2
-    open-in-requires-2
-    returns-3
-    slice-aggregate-open-in-3
-    open-in-requires-3
     returns-4)
