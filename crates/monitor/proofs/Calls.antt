@@ -34,6 +34,7 @@ use Rattle.monitor.specs.Ticks.{steps, stepWithin}
 use Rattle.monitor.specs.Calls.{Moving, givenOf, layoutOf, judge, onward, stateOf, withState, repliesOf, watchAfterAll, Held}
 use Rattle.monitor.proofs.Padded.{padded}
 use Rattle.monitor.proofs.Readable.{Readable, accepted-readable}
+use Rattle.monitor.proofs.Writers.{writers-enough}
 use Rattle.monitor.proofs.LetterTests.{LetterGiven, letter-met, letter-writes}
 use Rattle.monitor.proofs.Coded.{Coded}
 use Rattle.monitor.proofs.Memory.{Memory, rowsOf, memory-empty}
@@ -193,12 +194,16 @@ module _ (text : List ℕ) (o : Opened) (e : openText text ≡ value o) where
     abbrev Good : List ℕ → Type 0
     Good = Memory (rowsOf steps (Program.tableOf o) (at w σ)) (o .rowCount)
 
+    in-room : total size (o .monitors) ≤ 256
+    in-room = let a = c .few-letters in let b = c .letters-are in omega (arith, a, b)
+
     step-from : (K : List ℕ) (xs : List machine.Positions) → MarksAll K 0 0 (o .monitors) xs
         → Steps (o .monitors) (at w σ) σ padded (length (o .initial)) (machine.goEach 0 (o .monitors) xs (at w σ)) (stepWithin g (layoutOf v) K)
     unfolding v
     step-from K xs h =
         steps-right Good (λ M p. p .long) (λ M p. p .bits) (memory-empty (rowsOf steps (Program.tableOf o) (at w σ)) (o .rowCount)) g (at w σ) (layoutOf v) K (o .monitors) ordered
-        (Program.monitors-counted o c) (c .few-monitors) (Program.letters-counted o c ∙ sym (c .letters-are)) (let a = c .few-letters in let b = c .letters-are in omega (arith, a, b))
+        (Program.monitors-counted o c) (c .few-monitors) (Program.letters-counted o c ∙ sym (c .letters-are)) in-room
+        (writers-enough v (padded σ) w (total size (o .monitors)) in-room)
         xs σ padded (length (o .initial)) h long refl
         (all-go Good g (at w σ) (Program.tableOf o) (o .rowCount) (layoutOf v) K
         (λ r l e. asks-right (Program.tableOf o) g (at w σ) (o .rowCount) coded steps steps r l e (omega arith))

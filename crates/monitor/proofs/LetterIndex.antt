@@ -5,8 +5,8 @@ use mathlib.Core.List.{List, [], _∷_, _++_, map}
 use mathlib.Core.Option.{Option}
 use Prim.Native.Nat.{ℕ, suc, _+_, _*_, _<_, _≤_}
 use native.Mathlib.Omega.{arith}
-use lib.ListN.{length, length-append, length-map, getD, replicate}
-use lib.Seq.{sets}
+use lib.ListN.{length, length-append, length-map, length-replicate, getD, replicate}
+use lib.Seq.{sets, length-sets, getD-set-other}
 use Rattle.meaning.specs.Lists.{_∈_, each, total}
 use Rattle.meaning.specs.Expression.{Letter, Exp, letter, seq, alt, star, pipe, letters, size, Ordered}
 use Rattle.meaning.specs.Masks as masks
@@ -19,7 +19,8 @@ use Rattle.rules.specs.Watches.{noLists, watchBy}
 use Rattle.rules.specs.declared.Watch.{Watch}
 use Rattle.rules.proofs.Overlay.{two-long}
 use Rattle.rules.proofs.Placing.{letters-long}
-use Rattle.monitor.proofs.Stored.{stands-at, front, rear, stored}
+use Rattle.monitor.specs.Calls.{lettersOf, writersOf}
+use Rattle.monitor.proofs.Stored.{stands-at, front, rear, before, stored-from, stored, stored-at}
 use Rattle.monitor.proofs.Numbered.{InOrder, numbers-below}
 
 -- letters numbered from k on
@@ -79,11 +80,34 @@ four-slots : (f : Option Link → ℕ) (x : Letter) → length (map f (slotsOf x
 four-slots f x =
     omega (arith, length-map (slotsOf x) f, length-append (twoSlots (testsOn [] (x .literals))) (twoSlots (writesOn [] (x .writes))), two-long (testsOn [] (x .literals)), two-long (writesOn [] (x .writes)))
 
+-- what a letter looks at and what it wants, in one list
+module _ (ls ws : List ℕ) (n i : ℕ) (h : i < 256) where
+  abbrev A : List ℕ
+  A = sets (replicate 256 0) 0 ls
+
+  abbrev B : List ℕ
+  B = sets (replicate 256 0) 0 ws
+
+  abbrev C : List ℕ
+  C = sets (sets (replicate 1024 0) 0 A) 256 B
+
+  long : (xs : List ℕ) → length (sets (replicate 256 0) 0 xs) ≡ 256
+  long xs = length-sets (replicate 256 0) 0 xs ∙ length-replicate {A = ℕ} 256 0
+
+  looked-at : getD (lettersOf A B n) i 0 ≡ getD A i 0
+  looked-at = getD-set-other C 512 i n 0 (λ e. omega (arith, e, h)) ∙ before (sets (replicate 1024 0) 0 A) 256 i B h ∙ stored-at 1024 A i (omega (arith, long ls)) (omega (arith, long ls))
+
+  wanted : getD (lettersOf A B n) (256 + i) 0 ≡ getD B i 0
+  wanted =
+      getD-set-other C 512 (256 + i) n 0 (λ e. omega (arith, e, h))
+      ∙ stands-at (λ j. getD C j 0) 0 256 B i (omega (arith, long ws))
+      (stored-from (sets (replicate 1024 0) 0 A) 256 B (omega (arith, long ws, length-sets (replicate 1024 0) 0 A, length-replicate {A = ℕ} 1024 0)))
+
 -- a letter's numbers stand at its own number
 pub record LetterStands (v : Watch) (x : Letter) : Type 0 where
   pub below : x .number < 256
-  pub look : getD (v .look) (x .number) 0 ≡ masks.look (x .literals)
-  pub want : getD (v .want) (x .number) 0 ≡ masks.want (x .literals)
+  pub look : getD (lettersOf (v .look) (v .want) (writersOf (v .links) 256)) (x .number) 0 ≡ masks.look (x .literals)
+  pub want : getD (lettersOf (v .look) (v .want) (writersOf (v .links) 256)) (256 + x .number) 0 ≡ masks.want (x .literals)
   pub links : (j : ℕ) → j < 4 → getD (v .links) (4 * x .number + j) 0 ≡ getD (map slotWord (slotsOf x)) j 0
   pub numbers : (j : ℕ) → j < 4 → getD (v .numbers) (4 * x .number + j) 0 ≡ getD (map slotNumber (slotsOf x)) j 0
 
@@ -103,10 +127,13 @@ all-letters gs o few r l m w vs e i x j =
     let c = all-consecutive 0 gs o in
     let n : length (each gs letters) ≤ 256 = omega (arith, all-letters-long gs) in
     let k : x ∈ each gs letters = ∈-each letters i j in
+    let low : x .number < 256 = omega (arith, numbers-below 0 gs o e i x j) in
+    let looks = map (λ (y : Letter). masks.look (y .literals)) (each gs letters) in
+    let wants = map (λ (y : Letter). masks.want (y .literals)) (each gs letters) in
     record {
-      below = omega (arith, numbers-below 0 gs o e i x j);
-      look = single (each gs letters) c n x k (λ y. masks.look (y .literals));
-      want = single (each gs letters) c n x k (λ y. masks.want (y .literals));
+      below = low;
+      look = looked-at looks wants _ (x .number) low ∙ single (each gs letters) c n x k (λ y. masks.look (y .literals));
+      want = wanted looks wants _ (x .number) low ∙ single (each gs letters) c n x k (λ y. masks.want (y .literals));
       links = slots (each gs letters) c n x k slotWord;
       numbers = slots (each gs letters) c n x k slotNumber;
     }

@@ -9,7 +9,7 @@ use lib.Bits.{bitAnd}
 use lib.ListN.{getD, set}
 use Rattle.meaning.specs.Masks.{passes}
 use Rattle.words.specs.Words.{part0, part1, part2}
-use Rattle.monitor.specs.Letters.{Given, given, linkValue, testMet, letterMet, writeSlot, writeLetter}
+use Rattle.monitor.specs.Letters.{Given, linkValue, testMet, letterMet, writeSlot, writeLetter}
 
 -- ---- choices
 
@@ -42,39 +42,38 @@ by-wires x v w p q e f d =
 
 -- ---- a slot's test, and its write
 
-module _ (T A B L N S : List ℕ) (w slot : ℕ) where
-  pub no-test : getD L slot 0 ≡ 0 → true ≡ testMet (given T A B L N S w) slot
-  no-test z = either (eqb (getD L slot 0) 0) _ (eq-eqb (getD L slot 0) 0 z)
+module _ (g : Given) (slot : ℕ) where
+  pub no-test : getD (g .links) slot 0 ≡ 0 → true ≡ testMet g slot
+  no-test z = either (eqb (getD (g .links) slot 0) 0) _ (eq-eqb (getD (g .links) slot 0) 0 z)
 
-  pub the-test : (getD L slot 0 ≡ 0 → ⊥) → (p v n : ℕ) → p ≡ part0 (getD L slot 0) → v ≡ getD S p 0 → n ≡ linkValue (getD L slot 0) (getD N slot 0) w
-      → eqb v n ≡ testMet (given T A B L N S w) slot
-  the-test z p v n e f d =
-      ap₂ eqb (f ∙ ap (λ (k : ℕ). getD S k 0) e) d ∙ other (eqb (getD L slot 0) 0) _ (ne-eqb (getD L slot 0) 0 z)
+  pub no-write : getD (g .links) slot 0 ≡ 0 → (σ : List ℕ) → σ ≡ writeSlot g slot σ
+  no-write z σ = sym (taken (eqb (getD (g .links) slot 0) 0) σ _ (eq-eqb (getD (g .links) slot 0) 0 z))
 
-  pub no-write : getD L slot 0 ≡ 0 → (σ : List ℕ) → σ ≡ writeSlot (given T A B L N S w) slot σ
-  no-write z σ = sym (taken (eqb (getD L slot 0) 0) σ _ (eq-eqb (getD L slot 0) 0 z))
+  module _ (z : getD (g .links) slot 0 ≡ 0 → ⊥) (p n : ℕ) (e : p ≡ part0 (getD (g .links) slot 0))
+      (d : n ≡ linkValue (getD (g .links) slot 0) (getD (g .numbers) slot 0) (g .word)) where
+    pub the-test : (v : ℕ) → v ≡ getD (g .values) p 0 → eqb v n ≡ testMet g slot
+    the-test v f = ap₂ eqb (f ∙ ap (λ (k : ℕ). getD (g .values) k 0) e) d ∙ other (eqb (getD (g .links) slot 0) 0) _ (ne-eqb (getD (g .links) slot 0) 0 z)
 
-  pub the-write : (getD L slot 0 ≡ 0 → ⊥) → (σ τ : List ℕ) (p n : ℕ) → p ≡ part0 (getD L slot 0) → n ≡ linkValue (getD L slot 0) (getD N slot 0) w → τ ≡ set σ p n
-      → τ ≡ writeSlot (given T A B L N S w) slot σ
-  the-write z σ τ p n e d f = f ∙ ap₂ (λ (i a : ℕ). set σ i a) e d ∙ sym (left (eqb (getD L slot 0) 0) σ _ (ne-eqb (getD L slot 0) 0 z))
+    pub the-write : (σ τ : List ℕ) → τ ≡ set σ p n → τ ≡ writeSlot g slot σ
+    the-write σ τ f = f ∙ ap₂ (λ (i a : ℕ). set σ i a) e d ∙ sym (left (eqb (getD (g .links) slot 0) 0) σ _ (ne-eqb (getD (g .links) slot 0) 0 z))
 
 -- ---- a letter
 
-pub misses : (g : Given) (l : ℕ) (b : Bool) → b ≡ passes (getD (g .look) l 0) (getD (g .want) l 0) (g .word) → b ≡ false → false ≡ letterMet g l
+pub misses : (g : Given) (l : ℕ) (b : Bool) → b ≡ passes (getD (g .letters) l 0) (getD (g .letters) (256 + l) 0) (g .word) → b ≡ false → false ≡ letterMet g l
 unfolding letterMet
-misses g l b e f = neither (passes (getD (g .look) l 0) (getD (g .want) l 0) (g .word)) _ (sym e ∙ f)
+misses g l b e f = neither (passes (getD (g .letters) l 0) (getD (g .letters) (256 + l) 0) (g .word)) _ (sym e ∙ f)
 
-pub fails : (g : Given) (l : ℕ) (a b : Bool) → a ≡ passes (getD (g .look) l 0) (getD (g .want) l 0) (g .word) → a ≡ true → b ≡ testMet g (4 * l) → b ≡ false
+pub fails : (g : Given) (l : ℕ) (a b : Bool) → a ≡ passes (getD (g .letters) l 0) (getD (g .letters) (256 + l) 0) (g .word) → a ≡ true → b ≡ testMet g (4 * l) → b ≡ false
     → false ≡ letterMet g l
 unfolding letterMet
 fails g l a b e f d h =
-    neither (testMet g (4 * l)) (testMet g (4 * l + 1)) (sym d ∙ h) ∙ both (passes (getD (g .look) l 0) (getD (g .want) l 0) (g .word)) _ (sym e ∙ f)
+    neither (testMet g (4 * l)) (testMet g (4 * l + 1)) (sym d ∙ h) ∙ both (passes (getD (g .letters) l 0) (getD (g .letters) (256 + l) 0) (g .word)) _ (sym e ∙ f)
 
-pub meets : (g : Given) (l : ℕ) (a b c : Bool) → a ≡ passes (getD (g .look) l 0) (getD (g .want) l 0) (g .word) → a ≡ true → b ≡ testMet g (4 * l) → b ≡ true
+pub meets : (g : Given) (l : ℕ) (a b c : Bool) → a ≡ passes (getD (g .letters) l 0) (getD (g .letters) (256 + l) 0) (g .word) → a ≡ true → b ≡ testMet g (4 * l) → b ≡ true
     → c ≡ testMet g (4 * l + 1) → c ≡ letterMet g l
 unfolding letterMet
 meets g l a b c e f d h k =
-    k ∙ both (testMet g (4 * l)) (testMet g (4 * l + 1)) (sym d ∙ h) ∙ both (passes (getD (g .look) l 0) (getD (g .want) l 0) (g .word)) _ (sym e ∙ f)
+    k ∙ both (testMet g (4 * l)) (testMet g (4 * l + 1)) (sym d ∙ h) ∙ both (passes (getD (g .letters) l 0) (getD (g .letters) (256 + l) 0) (g .word)) _ (sym e ∙ f)
 
 pub writes : (g : Given) (l : ℕ) (σ τ υ : List ℕ) → τ ≡ writeSlot g (4 * l + 2) σ → υ ≡ writeSlot g (4 * l + 3) τ → υ ≡ writeLetter g l σ
 unfolding writeLetter

@@ -31,8 +31,8 @@ use Rattle.monitor.proofs.Readable.{Readable, Small}
 
 -- the lists of g have the numbers of letter x at index i
 pub record LetterGiven (g : Given) (i : ℕ) (x : Letter) : Type 0 where
-  pub looks : getD (g .look) i 0 ≡ look (x .literals)
-  pub wants : getD (g .want) i 0 ≡ want (x .literals)
+  pub looks : getD (g .letters) i 0 ≡ look (x .literals)
+  pub wants : getD (g .letters) (256 + i) 0 ≡ want (x .literals)
   pub links : (j : ℕ) → j < 4 → getD (g .links) (4 * i + j) 0 ≡ slotWord (getD (slotsOf x) j none)
   pub numbers : (j : ℕ) → j < 4 → getD (g .numbers) (4 * i + j) 0 ≡ slotNumber (getD (slotsOf x) j none)
 
@@ -257,7 +257,7 @@ module _ (g : Given) (i : ℕ) (x : Letter) (σ : List ℕ) (given : LetterGiven
       let few = readable .few-stores in
       let inside = readable .within in
       let (f₀, f₁) = both-fit (length σ) tests (tests-fit (readable .wires) (length σ) (readable .few-wires) [] (x .literals) tt (inside .literals)) in
-      let masks : passes (getD (g .look) i 0) (getD (g .want) i 0) (g .word) ≡ all (wireHolds (g .word)) (x .literals)
+      let masks : passes (getD (g .letters) i 0) (getD (g .letters) (256 + i) 0) (g .word) ≡ all (wireHolds (g .word)) (x .literals)
       = ap₂ (λ (a b : ℕ). passes a b (g .word)) (given .looks) (given .wants)
       ∙ same-truth _ _ (passes-meets (x .literals) (readable .sized) (readable .agreed) (g .word)) (meets-passes (x .literals) (readable .sized) (readable .agreed) (g .word)) in
       let test₀ = slot-test g (length σ) few (4 * i) σ few e (slot 0 tests) f₀ (subst (λ (j : ℕ). SlotGiven g j (slot 0 tests)) (add-zero (4 * i)) (slot-given 0 (omega arith))) in

@@ -19,10 +19,14 @@ mod Watching
 mod Replies
 -- a letter's test and writes, by the branches of the code
 mod LetterSteps
+-- what does nothing for an unmarked letter goes on from the first marked one; the new marks
+mod Marked
+-- behind the last letter that writes nothing is written
+mod Writers
 -- a tick, by the loops and branches of the code
 pub mod TickSteps
 -- a list that is stored in an array stands there
-mod Stored
+pub mod Stored
 -- reading gives at most 32 monitors
 mod FewMonitors
 -- a program's monitors with letters numbered over all of them have the same watch

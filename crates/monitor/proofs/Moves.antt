@@ -197,7 +197,7 @@ marks-all K i l (m ∷ ms) (ns ∷ nss) o z a = (
   marks-all K (suc i) (l + size m) ms nss (λ x j. o x (there j)) (λ k u v. z k (omega arith) (omega (arith, v))) (a .1),
 )
 
-writes-split : (g : Given) (K : List ℕ) (a b l : ℕ) (σ : List ℕ) → writeMarked g K (a + b) l σ ≡ writeMarked g K b (l + a) (writeMarked g K a l σ)
+pub writes-split : (g : Given) (K : List ℕ) (a b l : ℕ) (σ : List ℕ) → writeMarked g K (a + b) l σ ≡ writeMarked g K b (l + a) (writeMarked g K a l σ)
 unfolding writeMarked
 writes-split g K zero b l σ =
     let e : l ≡ l + 0 = omega arith in

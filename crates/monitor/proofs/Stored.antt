@@ -1,11 +1,11 @@
 -- Lists that are stored in an array stand in it, and what that says of one index. Assumes nothing.
-use mathlib.Core.Path.{_≡_, refl, ap, _∙_, subst}
+use mathlib.Core.Path.{_≡_, refl, sym, ap, ap₂, _∙_, subst}
 use mathlib.Core.List.{List, [], _∷_, _++_, map}
 use Prim.Native.Nat.{ℕ, zero, suc, _+_, _-_, _<_, _≤_}
 use native.Mathlib.Nat.{not-suc-le-zero, le-of-suc-le-suc}
 use native.Mathlib.Omega.{arith}
-use lib.ListN.{length, getD, take, drop, set, length-set, replicate, length-replicate}
-use lib.Seq.{sets, sets-eq, take-at, getD-set-same, getD-set-other}
+use lib.ListN.{length, getD, take, drop, set, length-set, replicate, length-replicate, drop-of-length-le}
+use lib.Seq.{sets, sets-eq, take-at, drop-cons, getD-set-same, getD-set-other}
 use Rattle.meaning.proofs.Rows.{Stands}
 use Rattle.meaning.proofs.Within.{Each}
 
@@ -55,11 +55,24 @@ map-at f d (x ∷ xs) (suc i) h = map-at f d xs i (le-of-suc-le-suc h)
 
 -- ---- stored in an array
 
-before : (K : List ℕ) (i j : ℕ) (xs : List ℕ) → j < i → getD (sets K i xs) j 0 ≡ getD K j 0
+-- a turn of a loop that stores a list: the element at i, and then those behind it
+pub put-more : (o₀ o o′ xs : List ℕ) (at place place′ i : ℕ) → i < length xs → sets o₀ at xs ≡ sets o place (drop i xs)
+    → o′ ≡ set o place (getD xs i 0) → place′ ≡ place + 1 → sets o₀ at xs ≡ sets o′ place′ (drop (i + 1) xs)
+put-more o₀ o o′ xs at place place′ i h e p q =
+    let s : suc place ≡ place′ = omega (arith, q) in
+    let t : suc i ≡ i + 1 = omega arith in
+    e ∙ ap (sets o place) (drop-cons xs i 0 h)
+    ∙ ap₂ (λ (l : List ℕ) (m : ℕ). sets l m (drop (suc i) xs)) (sym p) s
+    ∙ ap (λ (m : ℕ). sets o′ place′ (drop m xs)) t
+
+pub put-end : (o₀ o xs : List ℕ) (at place i : ℕ) → length xs ≤ i → sets o₀ at xs ≡ sets o place (drop i xs) → o ≡ sets o₀ at xs
+put-end o₀ o xs at place i h e = sym (e ∙ ap (sets o place) (drop-of-length-le xs h))
+
+pub before : (K : List ℕ) (i j : ℕ) (xs : List ℕ) → j < i → getD (sets K i xs) j 0 ≡ getD K j 0
 before K i j [] h = refl
 before K i j (x ∷ xs) h = before (set K i x) (suc i) j xs (omega arith) ∙ getD-set-other K i j x 0 (λ (e : j ≡ i). omega arith)
 
-stored-from : (K : List ℕ) (i : ℕ) (xs : List ℕ) → i + length xs ≤ length K → Stands (λ n. getD (sets K i xs) n 0) i xs
+pub stored-from : (K : List ℕ) (i : ℕ) (xs : List ℕ) → i + length xs ≤ length K → Stands (λ n. getD (sets K i xs) n 0) i xs
 stored-from K i [] h = tt
 stored-from K i (x ∷ xs) h = (
   before (set K i x) (suc i) i xs (omega arith) ∙ getD-set-same K i x 0 (omega arith),

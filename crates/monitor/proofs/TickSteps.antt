@@ -7,47 +7,22 @@ use native.Mathlib.Omega.{arith}
 use native.Mathlib.Nat.{div-lt-iff-lt-mul, div-eq-of-lt}
 use borrow.Author.Tests.{eq-eqb, ne-eqb, lt-ltb, le-ltb, lt-leb, le-leb, ltb-true, ltb-false, leb-true, leb-false}
 use lib.Dec.{eqb, leb, ltb}
-use lib.ListN.{getD, length, take, drop, replicate, set, length-set, getD-replicate, List·getD-eq-default}
+use lib.ListN.{getD}
 use lib.Pow.{pow-pos, pow-mono}
-use lib.Seq.{sets, getD-drop, getD-set-other, set-getD, take-all}
 use Rattle.meaning.specs.Fit.{ok as clean, bad as broken}
 use Rattle.meaning.specs.Calls.{Reply, refused, isStray, isFull, reply, after, replyOf as verdictReply}
-use Rattle.rules.proofs.Starting.{values-more}
-use Rattle.monitor.specs.Letters.{Given, writeLetter}
+use Rattle.words.specs.Words.{part0}
+use Rattle.monitor.specs.Letters.{Given, given, writeLetter}
 use Rattle.monitor.specs.Walk.{Told, told, askM, leaveM}
-use Rattle.monitor.specs.Ticks.{steps, Layout, layout, andThen, letterGoes, lettersGo, startGoes, lettersEnd, monitorGoes, Reached, reached, reachedBy, monitorsGo, marksAfter, writeIf, writeMarked, Move, move, emptyMemory, moveBy, stepWithin, verdictOf}
+use Rattle.monitor.specs.Ticks.{steps, Layout, layout, firstMarked, andThen, letterGoes, lettersGo, startGoes, lettersEnd, monitorGoes, Reached, reached, reachedBy, monitorsGo, marksAfter, writeIf, writeMarked, Move, move, emptyMemory, moveBy, stepWithin, stepOf, verdictOf}
 use Rattle.rules.specs.declared.Watch.{Watch}
-use Rattle.monitor.specs.Calls.{withState, refusedBy, stateOf, judge, onward, stepFrom, layoutOf, replyOf, watchAfter}
+use Rattle.monitor.specs.Calls.{Moving, tablesOf, withState, refusedBy, stateOf, judge, onward, stepFrom, layoutOf, replyOf, watchAfter}
 use Rattle.monitor.specs.Shown.{shownAnswer}
 use Rattle.monitor.specs.declared.Answer.the-variants.{Ok, Bad, Refused}
 use Rattle.monitor.proofs.LetterSteps.{taken, left}
+use Rattle.monitor.proofs.Marked.{to-first}
 
 -- ---- what a good tick leaves
-
--- what is stored before an index leaves it
-unstored : (vs L : List ℕ) (j i : ℕ) → j + length vs ≤ i → getD (sets L j vs) i 0 ≡ getD L i 0
-unstored [] L j i h = refl
-unstored (x ∷ vs) L j i h = unstored vs (set L j x) (suc j) i (omega arith) ∙ getD-set-other L j i x 0 (λ (e : i ≡ j). omega arith)
-
--- one more letter's mark; past the memory's end that is 0, as the new marks are
-mark-more : (M : List ℕ) (i : ℕ) → i < 288 → set (marksAfter i M) i (getD M (1024 + i) 0) ≡ marksAfter (i + 1) M
-mark-more M i l = ap (λ (x : ℕ). set (marksAfter i M) i x) (sym (getD-drop 1024 M i 0)) ∙ by (drop 1024 M) (ltb i (length (drop 1024 M))) refl
-  where
-    by : (W : List ℕ) (b : Bool) → ltb i (length W) ≡ b → set (sets (replicate 288 0) 0 (take i W)) i (getD W i 0) ≡ sets (replicate 288 0) 0 (take (i + 1) W)
-    by W true e = values-more (replicate 288 0) W i (ltb-true i (length W) e)
-    by W false e =
-        let h = ltb-false i (length W) e in
-        let z : getD (sets (replicate 288 0) 0 W) i 0 ≡ 0 = unstored W (replicate 288 0) 0 i (omega (arith, h)) ∙ getD-replicate 288 i 0 0 l in
-        ap₂ (λ (s : List ℕ) (x : ℕ). set (sets (replicate 288 0) 0 s) i x) (take-all i W h) (List·getD-eq-default W 0 {n = i} h ∙ sym z)
-        ∙ set-getD (sets (replicate 288 0) 0 W) i 0 ∙ ap (sets (replicate 288 0) 0) (sym (take-all (i + 1) W (omega (arith, h))))
-
-pub marks-next : (M K : List ℕ) (i n : ℕ) → n ≤ 256 → i < n → length K ≡ 288 → K ≡ marksAfter i M
-    → (i + 1 ≤ n) × (length (set K i (getD M (1024 + i) 0)) ≡ 288) × (set K i (getD M (1024 + i) 0) ≡ marksAfter (i + 1) M)
-marks-next M K i n l j s e =
-    (omega arith, length-set K i (getD M (1024 + i) 0) ∙ s, ap (λ (u : List ℕ). set u i (getD M (1024 + i) 0)) e ∙ mark-more M i (omega arith))
-
-pub marks-end : (M K : List ℕ) (i n : ℕ) → K ≡ marksAfter i M → i ≡ n → K ≡ marksAfter n M
-marks-end M K i n e q = e ∙ ap (λ (m : ℕ). marksAfter m M) q
 
 pub not-written : (g : Given) (K : List ℕ) (l : ℕ) (σ : List ℕ) → getD K l 0 ≡ 0 → σ ≡ writeIf g K l σ
 not-written g K l σ z = sym (taken (eqb (getD K l 0) 0) σ _ (eq-eqb (getD K l 0) 0 z))
@@ -55,16 +30,24 @@ not-written g K l σ z = sym (taken (eqb (getD K l 0) 0) σ _ (eq-eqb (getD K l 
 pub written : (g : Given) (K : List ℕ) (l : ℕ) (σ τ : List ℕ) → (getD K l 0 ≡ 0 → ⊥) → τ ≡ writeLetter g l σ → τ ≡ writeIf g K l σ
 written g K l σ τ z e = e ∙ sym (left (eqb (getD K l 0) 0) σ _ (ne-eqb (getD K l 0) 0 z))
 
-pub none-written : (g : Given) (K : List ℕ) (n : ℕ) (σ : List ℕ) → writeMarked g K n 0 σ ≡ writeMarked g K (n - 0) 0 σ
-none-written g K n σ = let d : n ≡ n - 0 = omega arith in ap (λ (m : ℕ). writeMarked g K m 0 σ) d
-
-pub written-more : (g : Given) (K : List ℕ) (n i : ℕ) (σ τ : List ℕ) → i < n → τ ≡ writeIf g K i σ
-    → writeMarked g K (n - i) i σ ≡ writeMarked g K (n - (i + 1)) (i + 1) τ
+-- an unmarked letter writes nothing
+idle-write : (g : Given) (K σ : List ℕ) (n l : ℕ) → getD K l 0 ≡ 0 → writeMarked g K (suc n) l σ ≡ writeMarked g K n (suc l) σ
 unfolding writeMarked
-written-more g K n i σ τ l e =
+idle-write g K σ n l z = ap (writeMarked g K n (suc l)) (sym (not-written g K l σ z))
+
+to-first-write : (g : Given) (K : List ℕ) (n i : ℕ) (σ : List ℕ) (j : ℕ) → j ≡ firstMarked K (n - i) i → writeMarked g K (n - i) i σ ≡ writeMarked g K (n - j) j σ
+to-first-write g K n i σ j = to-first K (λ m l. writeMarked g K m l σ) (idle-write g K σ) n i j
+
+pub written-first : (g : Given) (K : List ℕ) (n : ℕ) (σ : List ℕ) (j : ℕ) → j ≡ firstMarked K (n - 0) 0 → writeMarked g K n 0 σ ≡ writeMarked g K (n - j) j σ
+written-first g K n σ j e = let d : n ≡ n - 0 = omega arith in ap (λ (m : ℕ). writeMarked g K m 0 σ) d ∙ to-first-write g K n 0 σ j e
+
+pub written-more : (g : Given) (K : List ℕ) (n i : ℕ) (σ τ : List ℕ) → i < n → τ ≡ writeIf g K i σ → (j : ℕ) → j ≡ firstMarked K (n - (i + 1)) (i + 1)
+    → writeMarked g K (n - i) i σ ≡ writeMarked g K (n - j) j τ
+unfolding writeMarked
+written-more g K n i σ τ l e j f =
     let d : n - i ≡ suc (n - (i + 1)) = omega arith in
     let s : suc i ≡ i + 1 = omega arith in
-    ap (λ (m : ℕ). writeMarked g K m i σ) d ∙ ap₂ (λ (j : ℕ) (υ : List ℕ). writeMarked g K (n - (i + 1)) j υ) s (sym e)
+    ap (λ (m : ℕ). writeMarked g K m i σ) d ∙ ap₂ (λ (j : ℕ) (υ : List ℕ). writeMarked g K (n - (i + 1)) j υ) s (sym e) ∙ to-first-write g K n (i + 1) τ j f
 
 pub written-all : (g : Given) (K : List ℕ) (n i : ℕ) (σ τ : List ℕ) → n ≤ i → writeMarked g K n 0 σ ≡ writeMarked g K (n - i) i τ → τ ≡ writeMarked g K n 0 σ
 unfolding writeMarked
@@ -98,14 +81,23 @@ told-yes t b M f e y = ap (λ (s : Told). andThen s f) (sym e) ∙ taken b (f M)
 told-no : (t : Told) (b : Bool) (M : List ℕ) (f : List ℕ → Told) → told b M ≡ t → b ≡ false → andThen t f ≡ told false M
 told-no t b M f e y = ap (λ (s : Told). andThen s f) (sym e) ∙ left b (f M) (told b M) y ∙ ap (λ (c : Bool). told c M) y
 
+-- an unmarked letter is passed over
+idle-letter : (g : Given) (P K M : List ℕ) (n l : ℕ) → getD K l 0 ≡ 0 → lettersGo g P K (suc n) l M ≡ lettersGo g P K n (suc l) M
+unfolding lettersGo
+idle-letter g P K M n l z = told-yes (letterGoes g P K l M) true M (lettersGo g P K n (suc l)) (letter-stays g P K l M z) refl
+
+pub letters-first : (g : Given) (P K : List ℕ) (to i : ℕ) (M : List ℕ) (j : ℕ) → j ≡ firstMarked K (to - i) i → lettersGo g P K (to - i) i M ≡ lettersGo g P K (to - j) j M
+letters-first g P K to i M j = to-first K (λ n l. lettersGo g P K n l M) (idle-letter g P K M) to i j
+
 module _ (g : Given) (P K : List ℕ) (to i : ℕ) (M : List ℕ) where
-  pub letters-more : (b : Bool) (N : List ℕ) → i < to → told b N ≡ letterGoes g P K i M → b ≡ true
-      → lettersGo g P K (to - i) i M ≡ lettersGo g P K (to - (i + 1)) (i + 1) N
+  pub letters-more : (b : Bool) (N : List ℕ) → i < to → told b N ≡ letterGoes g P K i M → b ≡ true → (j : ℕ) → j ≡ firstMarked K (to - (i + 1)) (i + 1)
+      → lettersGo g P K (to - i) i M ≡ lettersGo g P K (to - j) j N
   unfolding lettersGo
-  letters-more b N l e y =
+  letters-more b N l e y j f =
       let d : to - i ≡ suc (to - (i + 1)) = omega arith in
       let s : suc i ≡ i + 1 = omega arith in
       ap (λ (m : ℕ). lettersGo g P K m i M) d ∙ told-yes (letterGoes g P K i M) b N (lettersGo g P K (to - (i + 1)) (suc i)) e y ∙ ap (λ (j : ℕ). lettersGo g P K (to - (i + 1)) j N) s
+      ∙ letters-first g P K to (i + 1) N j f
 
   pub letters-stop : (b : Bool) (N : List ℕ) (t : Told) → i < to → told b N ≡ letterGoes g P K i M → b ≡ false
       → t ≡ lettersGo g P K (to - i) i M → told false N ≡ t
@@ -184,10 +176,10 @@ module _ (g : Given) (p o f : List ℕ) (m l m′ l′ : ℕ) (K : List ℕ) (i 
   pub step-stops : i < m′ → move i K (g .values) ≡ stepWithin g (layout p o f (min m 32) (min l 256)) K
   step-stops h = sym (taken (ltb i m′) (move i K (g .values)) _ (lt-ltb i m′ h)) ∙ step-any
 
-  pub step-moves : m′ ≤ i → (N σ : List ℕ) → N ≡ marksAfter l′ M → σ ≡ writeMarked g N l′ 0 (g .values)
+  pub step-moves : m′ ≤ i → (N σ : List ℕ) → N ≡ marksAfter 256 M → (q k : ℕ) → q ≡ part0 (getD (g .letters) 512 0) → k ≡ min q l′ → σ ≡ writeMarked g N k 0 (g .values)
       → move i N σ ≡ stepWithin g (layout p o f (min m 32) (min l 256)) K
-  step-moves h N σ a b =
-      ap₂ (λ (s t : List ℕ). move i s t) a (b ∙ ap (λ (s : List ℕ). writeMarked g s l′ 0 (g .values)) a)
+  step-moves h N σ a q k u v b =
+      ap₂ (λ (s t : List ℕ). move i s t) a (b ∙ ap₂ (λ (s : List ℕ) (j : ℕ). writeMarked g s j 0 (g .values)) a (v ∙ ap (λ (j : ℕ). min j l′) u))
       ∙ sym (left (ltb i m′) (move i K (g .values)) _ (le-ltb i m′ h)) ∙ step-any
 
 -- ---- refusals
@@ -225,6 +217,11 @@ one-tick v K σ =
     ap (λ (n : ℕ). withState v (record { inner = record { marks = K; values = σ }; oks = n; stopped = v .stopped })) e
 
 -- ---- calls
+
+-- a step on lent tables is one of the watch whose tables they are
+pub lent-step : (v : Watch) (s : Moving) (w : ℕ) (t : List (List ℕ)) (a : Move) → t ≡ tablesOf v → a ≡ stepOf (given t (s .values) w) (layoutOf v) (s .marks)
+    → a ≡ stepFrom v s w
+lent-step v s w t a e d = d ∙ ap (λ (u : List (List ℕ)). stepOf (given u (s .values) w) (layoutOf v) (s .marks)) e
 
 module _ (v : Watch) (w n : ℕ) (e : n ≡ refusedBy (v .stopped) (v .ticks) (v .wires) w) where
   reply-refused : (n ≡ 0 → ⊥) → replyOf v w ≡ refused n 0

@@ -18,7 +18,7 @@ use Rattle.meaning.proofs.ListLaws.{here, there, no-∈, clash}
 use Rattle.meaning.proofs.Numbering.{between}
 use Rattle.meaning.proofs.Sets.{go-inside}
 use Rattle.monitor.specs.Letters.{Given}
-use Rattle.monitor.specs.Ticks.{Layout, marksAfter, writeMarked, Reached, Move, move, emptyMemory, moveBy, monitorsGo, stepWithin}
+use Rattle.monitor.specs.Ticks.{Layout, marksAfter, writeMarked, writers, Reached, Move, move, emptyMemory, moveBy, monitorsGo, stepWithin}
 use Rattle.monitor.proofs.Padded.{zeros-at}
 use Rattle.monitor.proofs.Memory.{empty-unmarked, Exactly}
 use Rattle.monitor.proofs.Going.{AllGo, Went, monitors-go, spread}
@@ -87,11 +87,12 @@ pub record Steps (ms : List Exp) (t : Tick) (σ : List ℕ) (pad : List ℕ → 
 
 module _ (Good : List ℕ → Type 0) (long : (M : List ℕ) → Good M → length M ≡ 1280) (bits : (M : List ℕ) → Good M → (l : ℕ) → l < 256 → getD M (1024 + l) 0 ≤ 1)
     (empty : Good emptyMemory) (g : Given) (t : Tick) (y : Layout) (K : List ℕ) (ms : List Exp) (ordered : (m : Exp) → m ∈ ms → Ordered 0 m)
-    (monitors : y .monitors ≡ length ms) (few-monitors : length ms ≤ 32) (letters : y .letters ≡ total size ms) (few-letters : total size ms ≤ 256) where
+    (monitors : y .monitors ≡ length ms) (few-monitors : length ms ≤ 32) (letters : y .letters ≡ total size ms) (few-letters : total size ms ≤ 256)
+    (enough : (Q ρ : List ℕ) → writeMarked g Q (writers g (total size ms)) 0 ρ ≡ writeMarked g Q (total size ms) 0 ρ) where
   -- the marks in a memory, letter by letter
   marked-if : (M ks : List ℕ) → Exactly Good emptyMemory ks M → (k : ℕ) → k < total size ms
-      → eqb (getD (marksAfter (total size ms) M) k 0) 0 ≡ not (member k ks)
-  marked-if M ks x k c = ap (λ (z : ℕ). eqb z 0) (after-at (total size ms) M few-letters (long M (x .good)) k c) ∙ by (member k ks) refl
+      → eqb (getD (marksAfter 256 M) k 0) 0 ≡ not (member k ks)
+  marked-if M ks x k c = ap (λ (z : ℕ). eqb z 0) (after-at 256 M (omega arith) (long M (x .good)) k (omega (arith, c, few-letters))) ∙ by (member k ks) refl
     where
       by : (b : Bool) → member k ks ≡ b → eqb (getD M (1024 + k) 0) 0 ≡ not b
       by true e = ne-eqb (getD M (1024 + k) 0) 0 (λ z. let p = x .adds k (from-member k ks (subst T (sym e) tt)) in absurd (omega (arith, p, z)))
@@ -110,7 +111,7 @@ module _ (Good : List ℕ → Type 0) (long : (M : List ℕ) → Good M → leng
     unfolding Went
     bad-step z j (p, q) =
         let b : ltb (z .monitor) (y .monitors) ≡ true = lt-ltb (z .monitor) (y .monitors) (omega (arith, p, q, monitors)) in (
-          ap (λ (c : Bool). cond c (move (z .monitor) K (g .values)) (move (z .monitor) (marksAfter (y .letters) (z .memory)) (writeMarked g (marksAfter (y .letters) (z .memory)) (y .letters) 0 (g .values))) .monitor) b ∙ p,
+          ap (λ (c : Bool). cond c (move (z .monitor) K (g .values)) (move (z .monitor) (marksAfter 256 (z .memory)) (writeMarked g (marksAfter 256 (z .memory)) (writers g (y .letters)) 0 (g .values))) .monitor) b ∙ p,
           omega (arith, q),
         )
 
@@ -121,11 +122,11 @@ module _ (Good : List ℕ → Type 0) (long : (M : List ℕ) → Good M → leng
     good-step z nss inside (p, x) =
         let b : ltb (z .monitor) (y .monitors) ≡ false = le-ltb (z .monitor) (y .monitors) (omega (arith, p, monitors)) in
         let n = total size ms in
-        let Q = marksAfter n (z .memory) in
+        let Q = marksAfter 256 (z .memory) in
         let a = all-marked Q n [] 0 ms nss inside (λ k i. absurd (no-∈ i)) (λ k c. marked-if (z .memory) (spread 0 ms nss) x k c) (omega arith) in
-        let m = marks-all Q 0 0 ms nss ordered (λ k u v. after-beyond n (z .memory) few-letters (long (z .memory) (x .good)) (256 + k) (omega (arith, few-letters))) a in
+        let m = marks-all Q 0 0 ms nss ordered (λ k u v. after-beyond 256 (z .memory) (omega arith) (long (z .memory) (x .good)) (256 + k) (omega arith)) a in
         let w = writes-all g t Q pad stores 0 ms nss ordered a (writes Q) σ long-values in
-        rw (b, letters) (omega (arith, p), m, ap (writeMarked g Q n 0) padded ∙ w .0, w .1)
+        rw (b, letters) (omega (arith, p), m, enough Q (g .values) ∙ ap (writeMarked g Q n 0) padded ∙ w .0, w .1)
 
     pub steps-right : Steps ms t σ pad stores (goEach 0 ms xs t) (stepWithin g y K)
     unfolding stepWithin

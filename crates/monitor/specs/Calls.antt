@@ -2,8 +2,9 @@
 use mathlib.Core.Bool.{Bool, cond}
 use mathlib.Core.List.{List, [], _∷_}
 use mathlib.Core.Path.{_≡_}
-use Prim.Native.Nat.{ℕ}
-use lib.ListN.{replicate}
+use Prim.Native.Nat.{ℕ, zero, suc, _+_, _*_}
+use lib.Dec.{eqb}
+use lib.ListN.{getD, set, replicate}
 use lib.Seq.{sets}
 use Rattle.refusals.specs.Numbers.{stray, stopped, full}
 use Rattle.meaning.specs.Fit.{Verdict, History}
@@ -17,9 +18,21 @@ pub record Moving : Type 0 where
   pub marks : List ℕ
   pub values : List ℕ
 
--- the rest of a watch
+-- the rest of a watch: what each letter looks at and, 256 places on, wants; and at 512 how many letters there are up to the last that writes
+abbrev pub lettersOf : (look want : List ℕ) → (writers : ℕ) → List ℕ
+lettersOf a b n = set (sets (sets (replicate 1024 0) 0 a) 256 b) 512 n
+
+-- of the first n letters so many, up to the last that has a write
+unfoldable pub writersOf : (links : List ℕ) → (n : ℕ) → ℕ
+writersOf c zero = zero
+writersOf c (suc n) = cond (eqb (getD c (4 * n + 2) 0) 0) (cond (eqb (getD c (4 * n + 3) 0) 0) (writersOf c n) (suc n)) (suc n)
+
+-- its tables, as a tick is lent them
+abbrev pub tablesOf : Watch → List (List ℕ)
+tablesOf v = v .table ∷ v .links ∷ v .numbers ∷ lettersOf (v .look) (v .want) (writersOf (v .links) 256) ∷ []
+
 abbrev pub givenOf : Watch → (values : List ℕ) → (word : ℕ) → Given
-givenOf v σ w = given (v .table) (v .look) (v .want) (v .links) (v .numbers) σ w
+givenOf v σ w = given (tablesOf v) σ w
 
 abbrev pub layoutOf : Watch → Layout
 layoutOf v = layout (v .places) (v .own) (v .firsts) (v .monitors) (v .letters)

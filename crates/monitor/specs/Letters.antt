@@ -1,7 +1,7 @@
 -- A letter's numbers and a tick's: whether the letter is met, and what it writes (docs/REFERENCE.md, F3, F6, F20 and F21). Over any numbers; nothing here is trusted to be
 -- within its list. Assumes nothing.
 use mathlib.Core.Bool.{Bool, cond, _&&_, _||_}
-use mathlib.Core.List.{List}
+use mathlib.Core.List.{List, []}
 use Prim.Native.Nat.{ℕ, _+_, _*_, _/_, _%_, _^_}
 use lib.Dec.{eqb}
 use lib.Bits.{bitAnd}
@@ -9,18 +9,19 @@ use lib.ListN.{getD, set}
 use Rattle.meaning.specs.Masks.{passes}
 use Rattle.words.specs.Words.{part0, part1, part2}
 
--- What a tick is judged by: the rows, each in one word, and the letters' numbers, as a watch has them; the store values before the tick, and its word.
+-- What a tick is judged by: the rows, each in one word; the letters' links and their numbers; for each letter the wires that it looks at, and 256 places on the values that
+-- it wants, and at 512 how many letters there are up to the last that writes; the store values before the tick, and its word.
 pub record Given : Type 0 where
   pub table : List ℕ
-  pub look : List ℕ
-  pub want : List ℕ
   pub links : List ℕ
   pub numbers : List ℕ
+  pub letters : List ℕ
   pub values : List ℕ
   pub word : ℕ
 
-abbrev pub given : (table look want links numbers values : List ℕ) → (word : ℕ) → Given
-given t a b c d v w = record { table = t; look = a; want = b; links = c; numbers = d; values = v; word = w }
+-- from four tables, in this order
+abbrev pub given : (tables : List (List ℕ)) → (values : List ℕ) → (word : ℕ) → Given
+given t v w = record { table = getD t 0 []; links = getD t 1 []; numbers = getD t 2 []; letters = getD t 3 []; values = v; word = w }
 
 -- A link's value: its number (part 1 is 2), or the wires from part 2 on that its number masks (N4), F20: "in word t".
 abbrev pub linkValue : (link number word : ℕ) → ℕ
@@ -32,7 +33,7 @@ testMet g i = eqb (getD (g .links) i 0) 0 || eqb (getD (g .values) (part0 (getD 
 
 -- F6: "all its literals hold at t": the wires looked at have the values wanted, and both tests are met
 unfoldable pub letterMet : Given → (letter : ℕ) → Bool
-letterMet g l = passes (getD (g .look) l 0) (getD (g .want) l 0) (g .word) && (testMet g (4 * l) && testMet g (4 * l + 1))
+letterMet g l = passes (getD (g .letters) l 0) (getD (g .letters) (256 + l) 0) (g .word) && (testMet g (4 * l) && testMet g (4 * l + 1))
 
 -- F20: a write, or none
 abbrev pub writeSlot : Given → (slot : ℕ) → List ℕ → List ℕ

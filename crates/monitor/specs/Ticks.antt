@@ -6,6 +6,7 @@ use lib.Dec.{eqb, ltb}
 use lib.ListN.{getD, take, drop, replicate}
 use lib.Seq.{sets}
 use Rattle.meaning.specs.Fit.{Verdict, ok, bad}
+use Rattle.words.specs.Words.{part0}
 use Rattle.monitor.specs.Letters.{Given, writeLetter}
 use Rattle.monitor.specs.Walk.{Told, told, askM, leaveM}
 
@@ -37,6 +38,11 @@ andThen a f = cond (a .yes) (f (a .memory)) a
 -- letter l is left, if it is marked
 abbrev pub letterGoes : Given → (places marks : List ℕ) → (l : ℕ) → List ℕ → Told
 letterGoes g places marks l M = cond (eqb (getD marks l 0) 0) (told true M) (leaveM steps g (getD places l 0) M)
+
+-- the first marked letter of n from l on, or the one behind them
+unfoldable pub firstMarked : (marks : List ℕ) → (n l : ℕ) → ℕ
+firstMarked marks zero l = l
+firstMarked marks (suc n) l = cond (eqb (getD marks l 0) 0) (firstMarked marks n (suc l)) l
 
 -- n letters from l on
 unfoldable pub lettersGo : Given → (places marks : List ℕ) → (n l : ℕ) → List ℕ → Told
@@ -87,6 +93,10 @@ unfoldable pub writeMarked : Given → (marks : List ℕ) → (n l : ℕ) → Li
 writeMarked g marks zero l σ = σ
 writeMarked g marks (suc n) l σ = writeMarked g marks n (suc l) (writeIf g marks l σ)
 
+-- so many letters need be looked at, by what the tables say, and no more than there are
+abbrev pub writers : Given → (letters : ℕ) → ℕ
+writers g n = min (part0 (getD (g .letters) 512 0)) n
+
 -- ---- one tick
 
 -- the first monitor that does not go on, or the number of monitors; the marks and store values after the tick (W7), or as before it where one does not (W8)
@@ -105,7 +115,7 @@ emptyMemory = replicate 1280 0
 abbrev pub moveBy : Given → Layout → (marks : List ℕ) → Reached → Move
 moveBy g y marks a =
     cond (ltb (a .monitor) (y .monitors)) (move (a .monitor) marks (g .values))
-    (move (a .monitor) (marksAfter (y .letters) (a .memory)) (writeMarked g (marksAfter (y .letters) (a .memory)) (y .letters) 0 (g .values)))
+    (move (a .monitor) (marksAfter 256 (a .memory)) (writeMarked g (marksAfter 256 (a .memory)) (writers g (y .letters)) 0 (g .values)))
 
 unfoldable pub stepWithin : Given → Layout → (marks : List ℕ) → Move
 stepWithin g y marks = moveBy g y marks (monitorsGo g y marks (y .monitors) 0 emptyMemory)

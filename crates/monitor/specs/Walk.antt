@@ -1,6 +1,8 @@
 -- The walk over rows, with what entering each came to remembered for one tick: asking a row and leaving a row take turns until letters are reached (docs/REFERENCE.md, F6 to
 -- F10). Leaving a row never forks, so the rows asked and left from one position are a line.
--- Over any rows: a row that is not there answers no, and so does a walk that is deeper than its count. Assumes nothing.
+-- Over any rows: a row that is not there answers no, and so does a walk that is deeper than its count. On every table a tick is some million calls at most. A position's
+-- line is askM and leaveM in turn, 4,096 together (Ticks.steps), each of which enters one row; there are 288 positions. What entering a row came to is kept when that entering
+-- ends, so enterings of one row that do more than look it up stand inside each other, and these too are 4,096 at most. Assumes nothing.
 use mathlib.Core.Bool.{Bool, true, false, cond}
 use mathlib.Core.List.{List}
 use Prim.Native.Nat.{ℕ, zero, suc, _+_}

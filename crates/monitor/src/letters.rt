@@ -1,4 +1,8 @@
 // A letter at a tick: whether it is met, and what it writes (specs/Letters.antt).
+use super::tables::LETTERS;
+use super::tables::LINKS;
+use super::tables::NUMBERS;
+use super::tables::WANTED;
 use words::part0;
 use words::part1;
 use words::part2;
@@ -30,21 +34,15 @@ fn value_at(values: &[u64], store: usize) -> u64
 }
 
 // Whether the store test in a slot is met, or there is none.
-fn test_met(
-    slot: usize,
-    word: u64,
-    links: &[u64; 1024],
-    numbers: &[u64; 1024],
-    values: &[u64; 16],
-) -> bool
+fn test_met(slot: usize, word: u64, tables: &[[u64; 1024]; 4], values: &[u64; 16]) -> bool
     requires { ⌜ slot < 1024 ⌝ }
-    ensures { λ r. ⌜ ((T A B : List ℕ) → r ≡ testMet (given T A B (now (links .entry)) (now (numbers .entry)) (now (values .entry)) word) slot) ⌝ }
+    ensures { λ r. ⌜ r ≡ testMet (given (now (tables .entry)) (now (values .entry)) word) slot ⌝ }
 {
-    let link = links[slot];
+    let link = tables[LINKS][slot];
     if link == 0 {
         return true;
     }
-    value_at(values, part0(link)) == link_value(link, numbers[slot], word)
+    value_at(values, part0(link)) == link_value(link, tables[NUMBERS][slot], word)
 }
 
 // Whether each wire looked at has the value wanted.
@@ -58,22 +56,23 @@ fn passes(look: u64, want: u64, word: u64) -> bool
 pub(crate) fn letter_met(
     letter: usize,
     word: u64,
-    look: &[u64; 256],
-    want: &[u64; 256],
-    links: &[u64; 1024],
-    numbers: &[u64; 1024],
+    tables: &[[u64; 1024]; 4],
     values: &[u64; 16],
 ) -> bool
     requires { ⌜ letter < 256 ⌝ }
-    ensures { λ r. ⌜ ((T : List ℕ) → r ≡ letterMet (given T (now (look .entry)) (now (want .entry)) (now (links .entry)) (now (numbers .entry)) (now (values .entry)) word) letter) ⌝ }
+    ensures { λ r. ⌜ r ≡ letterMet (given (now (tables .entry)) (now (values .entry)) word) letter ⌝ }
 {
-    if !passes(look[letter], want[letter], word) {
+    if !passes(
+        tables[LETTERS][letter],
+        tables[LETTERS][WANTED + letter],
+        word,
+    ) {
         return false;
     }
-    if !test_met(4 * letter, word, links, numbers, values) {
+    if !test_met(4 * letter, word, tables, values) {
         return false;
     }
-    test_met(4 * letter + 1, word, links, numbers, values)
+    test_met(4 * letter + 1, word, tables, values)
 }
 
 // Stores a value; nothing where there is no such store.
@@ -87,34 +86,31 @@ fn put_value(store: usize, value: u64, values: &mut [u64])
 }
 
 // The write in a slot, or none.
-fn write_slot(
-    slot: usize,
-    word: u64,
-    links: &[u64; 1024],
-    numbers: &[u64; 1024],
-    values: &mut [u64; 16],
-)
+fn write_slot(slot: usize, word: u64, tables: &[[u64; 1024]; 4], values: &mut [u64; 16])
     requires { ⌜ slot < 1024 ⌝ }
-    ensures { λ _. ⌜ ((T A B S : List ℕ) → now (values .exit) ≡ writeSlot (given T A B (now (links .entry)) (now (numbers .entry)) S word) slot (now (values .entry))) ⌝ }
+    ensures { λ _. ⌜ ((S : List ℕ) → now (values .exit) ≡ writeSlot (given (now (tables .entry)) S word) slot (now (values .entry))) ⌝ }
 {
-    let link = links[slot];
+    let link = tables[LINKS][slot];
     if link == 0 {
         return;
     }
-    put_value(part0(link), link_value(link, numbers[slot], word), values);
+    put_value(
+        part0(link),
+        link_value(link, tables[NUMBERS][slot], word),
+        values,
+    );
 }
 
 // The writes of a letter, in their order.
 pub(crate) fn write_letter(
     letter: usize,
     word: u64,
-    links: &[u64; 1024],
-    numbers: &[u64; 1024],
+    tables: &[[u64; 1024]; 4],
     values: &mut [u64; 16],
 )
     requires { ⌜ letter < 256 ⌝ }
-    ensures { λ _. ⌜ ((T A B S : List ℕ) → now (values .exit) ≡ writeLetter (given T A B (now (links .entry)) (now (numbers .entry)) S word) letter (now (values .entry))) ⌝ }
+    ensures { λ _. ⌜ ((S : List ℕ) → now (values .exit) ≡ writeLetter (given (now (tables .entry)) S word) letter (now (values .entry))) ⌝ }
 {
-    write_slot(4 * letter + 2, word, links, numbers, values);
-    write_slot(4 * letter + 3, word, links, numbers, values);
+    write_slot(4 * letter + 2, word, tables, values);
+    write_slot(4 * letter + 3, word, tables, values);
 }

@@ -1,55 +1,49 @@
-// The watch at work: `tick` takes a watch and a word to the answer and the new watch; `step` is one tick on lent tables.
+// The watch at work: `tick` takes a watch and a word to the answer and the new watch. For loops, which must not copy a watch,
+// `tables_of` lays its tables out once, and `step` is one tick on them.
 // What they answer is said for every watch, also one that no call ever gave (specs/Calls.antt, specs/Ticks.antt).
 mod letters;
+mod marks;
 mod positions;
+mod tables;
 mod walk;
 
 use letters::write_letter;
+use marks::first_marked;
+use marks::put_marks;
 use positions::least;
 use positions::monitors_go;
 use rules::Watch;
+use tables::LETTERS;
+use tables::WRITERS;
+pub use tables::tables_of;
+use words::part0;
 ghost use mathlib.Core.Path.{_≡_};
 ghost use mathlib.Core.Bool.{true};
 ghost use mathlib.Core.List.{List};
 ghost use Prim.Native.Nat.{ℕ, suc, _≤_, _<_};
 ghost use Rattle.meaning.specs.Calls.{isStray};
 ghost use Rattle.monitor.specs.Letters.{given};
-ghost use Rattle.monitor.specs.Ticks.{layout, marksAfter, writeIf, writeMarked, move, stepOf};
+ghost use Rattle.monitor.specs.Ticks.{layout, writeIf, writeMarked, move, stepOf};
 ghost use Rattle.monitor.specs.Calls.{stateOf, withState, refusedBy, replyOf, watchAfter};
 ghost use Rattle.monitor.specs.Shown.{shownAnswer};
 
 // ---- what a good tick leaves
-
-// The new marks: the letters marked in the memory.
-fn marks_after(memory: &[u8; 1280], letters: usize) -> [u8; 288]
-    requires { ⌜ letters ≤ 256 ⌝ }
-    ensures { λ r. ⌜ r ≡ marksAfter letters (now (memory .entry)) ⌝ }
-{
-    let mut marks = [0u8; 288];
-    let mut i: usize = 0;
-    while i < letters {
-        marks[i] = memory[1024 + i];
-        i += 1;
-    }
-    marks
-}
 
 // The writes of a letter, if it is marked.
 fn write_if(
     letter: usize,
     word: u64,
     marks: &[u8; 288],
-    links: &[u64; 1024],
-    numbers: &[u64; 1024],
+    tables: &[[u64; 1024]; 4],
     values: &mut [u64; 16],
 )
     requires { ⌜ letter < 256 ⌝ }
-    ensures { λ _. ⌜ ((T A B S : List ℕ) → now (values .exit) ≡ writeIf (given T A B (now (links .entry)) (now (numbers .entry)) S word) (now (marks .entry)) letter (now (values .entry))) ⌝ }
+    ensures { λ _. ⌜ ((S : List ℕ) → now (values .exit) ≡ writeIf (given (now (tables .entry)) S word) (now (marks .entry)) letter (now (values .entry))) ⌝ }
 {
     if marks[letter] == 0 {
         return;
     }
-    write_letter(letter, word, links, numbers, values);
+    write_letter(letter, word, tables, values);
 }
 
 // The writes of the marked letters, in their order.
@@ -57,46 +51,35 @@ fn write_marked(
     letters: usize,
     word: u64,
     marks: &[u8; 288],
-    links: &[u64; 1024],
-    numbers: &[u64; 1024],
+    tables: &[[u64; 1024]; 4],
     values: &mut [u64; 16],
 )
     requires { ⌜ letters ≤ 256 ⌝ }
-    ensures { λ _. ⌜ ((T A B S : List ℕ) → now (values .exit) ≡ writeMarked (given T A B (now (links .entry)) (now (numbers .entry)) S word) (now (marks .entry)) letters 0 (now (values .entry))) ⌝ }
+    ensures { λ _. ⌜ ((S : List ℕ) → now (values .exit) ≡ writeMarked (given (now (tables .entry)) S word) (now (marks .entry)) letters 0 (now (values .entry))) ⌝ }
 {
-    let mut i: usize = 0;
+    let mut i = first_marked(marks, 0, letters);
     while i < letters {
-        write_if(i, word, marks, links, numbers, values);
-        i += 1;
+        write_if(i, word, marks, tables, values);
+        i = first_marked(marks, i + 1, letters);
     }
 }
 
 // ---- one tick
 
-// The first monitor that does not go on, or how many there are; marks and store values after the tick, or as before it where one does not.
-pub struct Moved {
-    pub monitor: usize,
-    pub marks: [u8; 288],
-    pub values: [u64; 16],
-}
-
-// One tick on lent tables. No more than 32 monitors and 256 letters are looked at.
+// One tick on lent tables: the first monitor that does not go on, or how many there are. Marks and store values are then those
+// after the tick, or as they were where one does not go on. No more than 32 monitors and 256 letters are looked at.
 pub fn step<'a>(
-    table: &'a [u64; 1024],
-    look: &'a [u64; 256],
-    want: &'a [u64; 256],
-    links: &'a [u64; 1024],
-    numbers: &'a [u64; 1024],
+    tables: &'a [[u64; 1024]; 4],
     places: &'a [u16; 256],
     own: &'a [u16; 32],
     firsts: &'a [u16; 32],
     monitors: usize,
     letters: usize,
-    marks: [u8; 288],
-    values: [u64; 16],
+    marks: &mut [u8; 288],
+    values: &mut [u64; 16],
     word: u64,
-) -> Moved
-    ensures { λ r. ⌜ move (r .monitor) (r .marks) (r .values) ≡ stepOf (given (now (table .entry)) (now (look .entry)) (now (want .entry)) (now (links .entry)) (now (numbers .entry)) values word) (layout (now (places .entry)) (now (own .entry)) (now (firsts .entry)) monitors letters) marks ⌝ }
+) -> usize
+    ensures { λ r. ⌜ move r (now (marks .exit)) (now (values .exit)) ≡ stepOf (given (now (tables .entry)) (now (values .entry)) word) (layout (now (places .entry)) (now (own .entry)) (now (firsts .entry)) monitors letters) (now (marks .entry)) ⌝ }
 {
     let count = least(monitors, 32);
     let end = least(letters, 256);
@@ -104,34 +87,22 @@ pub fn step<'a>(
     let monitor = monitors_go(
         count,
         end,
-        &marks,
+        marks,
         places,
         own,
         firsts,
-        table,
+        tables,
         &mut memory,
         word,
-        look,
-        want,
-        links,
-        numbers,
-        &values,
+        values,
     );
     if monitor < count {
-        return Moved {
-            monitor,
-            marks,
-            values,
-        };
+        return monitor;
     }
-    let next = marks_after(&memory, end);
-    let mut written = values;
-    write_marked(end, word, &next, links, numbers, &mut written);
-    Moved {
-        monitor,
-        marks: next,
-        values: written,
-    }
+    put_marks(&memory, marks);
+    let writers = least(part0(tables[LETTERS][WRITERS]), end);
+    write_marked(writers, word, marks, tables, values);
+    monitor
 }
 
 // ---- calls
@@ -208,24 +179,20 @@ pub fn tick(watch: Watch, word: u64) -> Ticked
             watch,
         };
     }
-    let marks = watch.marks;
-    let values = watch.values;
-    let moved = step(
-        &watch.table,
-        &watch.look,
-        &watch.want,
-        &watch.links,
-        &watch.numbers,
+    let tables = tables_of(watch);
+    let mut marks = watch.marks;
+    let mut values = watch.values;
+    let monitor = step(
+        &tables,
         &watch.places,
         &watch.own,
         &watch.firsts,
         watch.monitors,
         watch.letters,
-        marks,
-        values,
+        &mut marks,
+        &mut values,
         word,
     );
-    let monitor = moved.monitor;
     if monitor < least(watch.monitors, 32) {
         let next = stopped(watch);
         return Ticked {
@@ -233,9 +200,7 @@ pub fn tick(watch: Watch, word: u64) -> Ticked
             watch: next,
         };
     }
-    let after = moved.marks;
-    let written = moved.values;
-    let next = moved_on(watch, after, written);
+    let next = moved_on(watch, marks, values);
     Ticked {
         answer: Answer::Ok,
         watch: next,

@@ -1,4 +1,5 @@
 // Every active position goes on, or a monitor no longer fits (specs/Ticks.antt).
+use super::marks::first_marked;
 use super::walk::ask;
 use super::walk::leave;
 ghost use mathlib.Core.Path.{_≡_};
@@ -31,33 +32,18 @@ fn letter_goes(
     letter: usize,
     marks: &[u8; 288],
     places: &[u16; 256],
-    table: &[u64; 1024],
+    tables: &[[u64; 1024]; 4],
     memory: &mut [u8; 1280],
     word: u64,
-    look: &[u64; 256],
-    want: &[u64; 256],
-    links: &[u64; 1024],
-    numbers: &[u64; 1024],
     values: &[u64; 16],
 ) -> bool
     requires { ⌜ letter < 256 ⌝ }
-    ensures { λ r. ⌜ told r (now (memory .exit)) ≡ letterGoes (given (now (table .entry)) (now (look .entry)) (now (want .entry)) (now (links .entry)) (now (numbers .entry)) (now (values .entry)) word) (now (places .entry)) (now (marks .entry)) letter (now (memory .entry)) ⌝ }
+    ensures { λ r. ⌜ told r (now (memory .exit)) ≡ letterGoes (given (now (tables .entry)) (now (values .entry)) word) (now (places .entry)) (now (marks .entry)) letter (now (memory .entry)) ⌝ }
 {
     if marks[letter] == 0 {
         return true;
     }
-    leave(
-        wide(places[letter]),
-        STEPS,
-        table,
-        memory,
-        word,
-        look,
-        want,
-        links,
-        numbers,
-        values,
-    )
+    leave(wide(places[letter]), STEPS, tables, memory, word, values)
 }
 
 // The letters from one up to another.
@@ -66,36 +52,20 @@ fn letters_go(
     to: usize,
     marks: &[u8; 288],
     places: &[u16; 256],
-    table: &[u64; 1024],
+    tables: &[[u64; 1024]; 4],
     memory: &mut [u8; 1280],
     word: u64,
-    look: &[u64; 256],
-    want: &[u64; 256],
-    links: &[u64; 1024],
-    numbers: &[u64; 1024],
     values: &[u64; 16],
 ) -> bool
     requires { ⌜ to ≤ 256 ⌝ }
-    ensures { λ r. ⌜ told r (now (memory .exit)) ≡ lettersGo (given (now (table .entry)) (now (look .entry)) (now (want .entry)) (now (links .entry)) (now (numbers .entry)) (now (values .entry)) word) (now (places .entry)) (now (marks .entry)) (to - from) from (now (memory .entry)) ⌝ }
+    ensures { λ r. ⌜ told r (now (memory .exit)) ≡ lettersGo (given (now (tables .entry)) (now (values .entry)) word) (now (places .entry)) (now (marks .entry)) (to - from) from (now (memory .entry)) ⌝ }
 {
-    let mut letter = from;
+    let mut letter = first_marked(marks, from, to);
     while letter < to {
-        if !letter_goes(
-            letter,
-            marks,
-            places,
-            table,
-            memory,
-            word,
-            look,
-            want,
-            links,
-            numbers,
-            values,
-        ) {
+        if !letter_goes(letter, marks, places, tables, memory, word, values) {
             return false;
         }
-        letter += 1;
+        letter = first_marked(marks, letter + 1, to);
     }
     true
 }
@@ -105,33 +75,18 @@ fn start_goes(
     monitor: usize,
     marks: &[u8; 288],
     own: &[u16; 32],
-    table: &[u64; 1024],
+    tables: &[[u64; 1024]; 4],
     memory: &mut [u8; 1280],
     word: u64,
-    look: &[u64; 256],
-    want: &[u64; 256],
-    links: &[u64; 1024],
-    numbers: &[u64; 1024],
     values: &[u64; 16],
 ) -> bool
     requires { ⌜ monitor < 32 ⌝ }
-    ensures { λ r. ⌜ told r (now (memory .exit)) ≡ startGoes (given (now (table .entry)) (now (look .entry)) (now (want .entry)) (now (links .entry)) (now (numbers .entry)) (now (values .entry)) word) (now (own .entry)) (now (marks .entry)) monitor (now (memory .entry)) ⌝ }
+    ensures { λ r. ⌜ told r (now (memory .exit)) ≡ startGoes (given (now (tables .entry)) (now (values .entry)) word) (now (own .entry)) (now (marks .entry)) monitor (now (memory .entry)) ⌝ }
 {
     if marks[256 + monitor] == 0 {
         return true;
     }
-    ask(
-        wide(own[monitor]),
-        STEPS,
-        table,
-        memory,
-        word,
-        look,
-        want,
-        links,
-        numbers,
-        values,
-    )
+    ask(wide(own[monitor]), STEPS, tables, memory, word, values)
 }
 
 // Where a monitor's letters end.
@@ -154,49 +109,20 @@ fn monitor_goes(
     places: &[u16; 256],
     own: &[u16; 32],
     firsts: &[u16; 32],
-    table: &[u64; 1024],
+    tables: &[[u64; 1024]; 4],
     memory: &mut [u8; 1280],
     word: u64,
-    look: &[u64; 256],
-    want: &[u64; 256],
-    links: &[u64; 1024],
-    numbers: &[u64; 1024],
     values: &[u64; 16],
 ) -> bool
     requires { ⌜ (monitor < monitors) × (monitors ≤ 32) × (letters ≤ 256) ⌝ }
-    ensures { λ r. ⌜ told r (now (memory .exit)) ≡ monitorGoes (given (now (table .entry)) (now (look .entry)) (now (want .entry)) (now (links .entry)) (now (numbers .entry)) (now (values .entry)) word) (layout (now (places .entry)) (now (own .entry)) (now (firsts .entry)) monitors letters) (now (marks .entry)) monitor (now (memory .entry)) ⌝ }
+    ensures { λ r. ⌜ told r (now (memory .exit)) ≡ monitorGoes (given (now (tables .entry)) (now (values .entry)) word) (layout (now (places .entry)) (now (own .entry)) (now (firsts .entry)) monitors letters) (now (marks .entry)) monitor (now (memory .entry)) ⌝ }
 {
-    if !start_goes(
-        monitor,
-        marks,
-        own,
-        table,
-        memory,
-        word,
-        look,
-        want,
-        links,
-        numbers,
-        values,
-    ) {
+    if !start_goes(monitor, marks, own, tables, memory, word, values) {
         return false;
     }
     let from = wide(firsts[monitor]);
     let to = letters_end(firsts, monitors, letters, monitor);
-    letters_go(
-        from,
-        to,
-        marks,
-        places,
-        table,
-        memory,
-        word,
-        look,
-        want,
-        links,
-        numbers,
-        values,
-    )
+    letters_go(from, to, marks, places, tables, memory, word, values)
 }
 
 // Every active position of every monitor: the first monitor that does not go on, or how many there are.
@@ -207,17 +133,13 @@ pub(crate) fn monitors_go(
     places: &[u16; 256],
     own: &[u16; 32],
     firsts: &[u16; 32],
-    table: &[u64; 1024],
+    tables: &[[u64; 1024]; 4],
     memory: &mut [u8; 1280],
     word: u64,
-    look: &[u64; 256],
-    want: &[u64; 256],
-    links: &[u64; 1024],
-    numbers: &[u64; 1024],
     values: &[u64; 16],
 ) -> usize
     requires { ⌜ (monitors ≤ 32) × (letters ≤ 256) ⌝ }
-    ensures { λ r. ⌜ reached r (now (memory .exit)) ≡ monitorsGo (given (now (table .entry)) (now (look .entry)) (now (want .entry)) (now (links .entry)) (now (numbers .entry)) (now (values .entry)) word) (layout (now (places .entry)) (now (own .entry)) (now (firsts .entry)) monitors letters) (now (marks .entry)) monitors 0 (now (memory .entry)) ⌝ }
+    ensures { λ r. ⌜ reached r (now (memory .exit)) ≡ monitorsGo (given (now (tables .entry)) (now (values .entry)) word) (layout (now (places .entry)) (now (own .entry)) (now (firsts .entry)) monitors letters) (now (marks .entry)) monitors 0 (now (memory .entry)) ⌝ }
 {
     let mut monitor: usize = 0;
     while monitor < monitors {
@@ -229,13 +151,9 @@ pub(crate) fn monitors_go(
             places,
             own,
             firsts,
-            table,
+            tables,
             memory,
             word,
-            look,
-            want,
-            links,
-            numbers,
             values,
         ) {
             return monitor;

@@ -2,13 +2,12 @@
 // each call. What entering a row came to is remembered for one tick. Leaving a row is always the last thing done, so the rows
 // asked and left from one position are a line, and a letter that is marked stays marked unless the tick is bad.
 use super::letters::letter_met;
+use super::tables::ROWS;
 use words::part0;
 use words::part1;
 use words::part2;
 use words::part3;
 ghost use mathlib.Core.Path.{_≡_};
-ghost use mathlib.Core.List.{List};
-ghost use Prim.Native.Nat.{ℕ};
 ghost use Rattle.monitor.specs.Letters.{given};
 ghost use Rattle.monitor.specs.Walk.{came, told, enterLetter, enterSecond, enterOn, enterM, askM, leaveM};
 
@@ -35,20 +34,17 @@ const MET: u8 = 3;
 // A letter is met, and marked, or not.
 fn enter_letter(
     letter: usize,
+    tables: &[[u64; 1024]; 4],
     memory: &mut [u8; 1280],
     word: u64,
-    look: &[u64; 256],
-    want: &[u64; 256],
-    links: &[u64; 1024],
-    numbers: &[u64; 1024],
     values: &[u64; 16],
 ) -> u8
-    ensures { λ r. ⌜ ((T : List ℕ) → came r (now (memory .exit)) ≡ enterLetter (given T (now (look .entry)) (now (want .entry)) (now (links .entry)) (now (numbers .entry)) (now (values .entry)) word) letter (now (memory .entry))) ⌝ }
+    ensures { λ r. ⌜ came r (now (memory .exit)) ≡ enterLetter (given (now (tables .entry)) (now (values .entry)) word) letter (now (memory .entry)) ⌝ }
 {
     if 256 <= letter {
         return BLOCKED;
     }
-    if !letter_met(letter, word, look, want, links, numbers, values) {
+    if !letter_met(letter, word, tables, values) {
         return BLOCKED;
     }
     memory[1024 + letter] = 1;
@@ -59,16 +55,12 @@ fn enter_letter(
 fn enter(
     row: usize,
     steps: usize,
-    table: &[u64; 1024],
+    tables: &[[u64; 1024]; 4],
     memory: &mut [u8; 1280],
     word: u64,
-    look: &[u64; 256],
-    want: &[u64; 256],
-    links: &[u64; 1024],
-    numbers: &[u64; 1024],
     values: &[u64; 16],
 ) -> u8
-    ensures { λ r. ⌜ came r (now (memory .exit)) ≡ enterM steps (given (now (table .entry)) (now (look .entry)) (now (want .entry)) (now (links .entry)) (now (numbers .entry)) (now (values .entry)) word) row (now (memory .entry)) ⌝ }
+    ensures { λ r. ⌜ came r (now (memory .exit)) ≡ enterM steps (given (now (tables .entry)) (now (values .entry)) word) row (now (memory .entry)) ⌝ }
 {
     if steps == 0 {
         return BLOCKED;
@@ -80,18 +72,7 @@ fn enter(
     if known != 0 {
         return known;
     }
-    let code = enter_on(
-        table[row],
-        steps - 1,
-        table,
-        memory,
-        word,
-        look,
-        want,
-        links,
-        numbers,
-        values,
-    );
+    let code = enter_on(tables[ROWS][row], steps - 1, tables, memory, word, values);
     memory[row] = code;
     code
 }
@@ -100,54 +81,18 @@ fn enter(
 fn enter_on(
     entry: u64,
     steps: usize,
-    table: &[u64; 1024],
+    tables: &[[u64; 1024]; 4],
     memory: &mut [u8; 1280],
     word: u64,
-    look: &[u64; 256],
-    want: &[u64; 256],
-    links: &[u64; 1024],
-    numbers: &[u64; 1024],
     values: &[u64; 16],
 ) -> u8
-    ensures { λ r. ⌜ came r (now (memory .exit)) ≡ enterOn (given (now (table .entry)) (now (look .entry)) (now (want .entry)) (now (links .entry)) (now (numbers .entry)) (now (values .entry)) word) (enterM steps (given (now (table .entry)) (now (look .entry)) (now (want .entry)) (now (links .entry)) (now (numbers .entry)) (now (values .entry)) word)) entry (now (memory .entry)) ⌝ }
+    ensures { λ r. ⌜ came r (now (memory .exit)) ≡ enterOn (given (now (tables .entry)) (now (values .entry)) word) (enterM steps (given (now (tables .entry)) (now (values .entry)) word)) entry (now (memory .entry)) ⌝ }
 {
     if part0(entry) == LETTER {
-        return enter_letter(
-            part1(entry),
-            memory,
-            word,
-            look,
-            want,
-            links,
-            numbers,
-            values,
-        );
+        return enter_letter(part1(entry), tables, memory, word, values);
     }
-    let first = enter(
-        part1(entry),
-        steps,
-        table,
-        memory,
-        word,
-        look,
-        want,
-        links,
-        numbers,
-        values,
-    );
-    enter_second(
-        entry,
-        first,
-        steps,
-        table,
-        memory,
-        word,
-        look,
-        want,
-        links,
-        numbers,
-        values,
-    )
+    let first = enter(part1(entry), steps, tables, memory, word, values);
+    enter_second(entry, first, steps, tables, memory, word, values)
 }
 
 // By what the left operand came to.
@@ -155,34 +100,19 @@ fn enter_second(
     entry: u64,
     first: u8,
     steps: usize,
-    table: &[u64; 1024],
+    tables: &[[u64; 1024]; 4],
     memory: &mut [u8; 1280],
     word: u64,
-    look: &[u64; 256],
-    want: &[u64; 256],
-    links: &[u64; 1024],
-    numbers: &[u64; 1024],
     values: &[u64; 16],
 ) -> u8
-    ensures { λ r. ⌜ came r (now (memory .exit)) ≡ enterSecond (enterM steps (given (now (table .entry)) (now (look .entry)) (now (want .entry)) (now (links .entry)) (now (numbers .entry)) (now (values .entry)) word)) entry (came first (now (memory .entry))) ⌝ }
+    ensures { λ r. ⌜ came r (now (memory .exit)) ≡ enterSecond (enterM steps (given (now (tables .entry)) (now (values .entry)) word)) entry (came first (now (memory .entry))) ⌝ }
 {
     let kind = part0(entry);
     if kind == SEQUENCE {
         if first != PASSED {
             return first;
         }
-        return enter(
-            part2(entry),
-            steps,
-            table,
-            memory,
-            word,
-            look,
-            want,
-            links,
-            numbers,
-            values,
-        );
+        return enter(part2(entry), steps, tables, memory, word, values);
     }
     if kind == STAR {
         if first == MET {
@@ -196,18 +126,7 @@ fn enter_second(
     if first == MET {
         return first;
     }
-    let second = enter(
-        part2(entry),
-        steps,
-        table,
-        memory,
-        word,
-        look,
-        want,
-        links,
-        numbers,
-        values,
-    );
+    let second = enter(part2(entry), steps, tables, memory, word, values);
     if second == MET {
         return MET;
     }
@@ -223,50 +142,24 @@ fn enter_second(
 pub(crate) fn ask(
     row: usize,
     steps: usize,
-    table: &[u64; 1024],
+    tables: &[[u64; 1024]; 4],
     memory: &mut [u8; 1280],
     word: u64,
-    look: &[u64; 256],
-    want: &[u64; 256],
-    links: &[u64; 1024],
-    numbers: &[u64; 1024],
     values: &[u64; 16],
 ) -> bool
-    ensures { λ r. ⌜ told r (now (memory .exit)) ≡ askM steps (given (now (table .entry)) (now (look .entry)) (now (want .entry)) (now (links .entry)) (now (numbers .entry)) (now (values .entry)) word) row (now (memory .entry)) ⌝ }
+    ensures { λ r. ⌜ told r (now (memory .exit)) ≡ askM steps (given (now (tables .entry)) (now (values .entry)) word) row (now (memory .entry)) ⌝ }
 {
     if steps == 0 {
         return false;
     }
-    let code = enter(
-        row,
-        steps - 1,
-        table,
-        memory,
-        word,
-        look,
-        want,
-        links,
-        numbers,
-        values,
-    );
+    let code = enter(row, steps - 1, tables, memory, word, values);
     if code == MET {
         return true;
     }
     if code != PASSED {
         return false;
     }
-    leave(
-        row,
-        steps - 1,
-        table,
-        memory,
-        word,
-        look,
-        want,
-        links,
-        numbers,
-        values,
-    )
+    leave(row, steps - 1, tables, memory, word, values)
 }
 
 // A row is left: whether there is a way on behind it that the tick meets. A monitor's own row, which points at itself, is asked
@@ -274,16 +167,12 @@ pub(crate) fn ask(
 pub(crate) fn leave(
     row: usize,
     steps: usize,
-    table: &[u64; 1024],
+    tables: &[[u64; 1024]; 4],
     memory: &mut [u8; 1280],
     word: u64,
-    look: &[u64; 256],
-    want: &[u64; 256],
-    links: &[u64; 1024],
-    numbers: &[u64; 1024],
     values: &[u64; 16],
 ) -> bool
-    ensures { λ r. ⌜ told r (now (memory .exit)) ≡ leaveM steps (given (now (table .entry)) (now (look .entry)) (now (want .entry)) (now (links .entry)) (now (numbers .entry)) (now (values .entry)) word) row (now (memory .entry)) ⌝ }
+    ensures { λ r. ⌜ told r (now (memory .exit)) ≡ leaveM steps (given (now (tables .entry)) (now (values .entry)) word) row (now (memory .entry)) ⌝ }
 {
     if steps == 0 {
         return false;
@@ -292,81 +181,26 @@ pub(crate) fn leave(
         return false;
     }
     let left = steps - 1;
-    let above = part3(table[row]);
+    let above = part3(tables[ROWS][row]);
     if above == row {
-        return ask(
-            row,
-            left,
-            table,
-            memory,
-            word,
-            look,
-            want,
-            links,
-            numbers,
-            values,
-        );
+        return ask(row, left, tables, memory, word, values);
     }
     if 1024 <= above {
         return false;
     }
-    let entry = table[above];
+    let entry = tables[ROWS][above];
     let kind = part0(entry);
     if kind == SEQUENCE {
         if part1(entry) == row {
-            return ask(
-                part2(entry),
-                left,
-                table,
-                memory,
-                word,
-                look,
-                want,
-                links,
-                numbers,
-                values,
-            );
+            return ask(part2(entry), left, tables, memory, word, values);
         }
-        return leave(
-            above,
-            left,
-            table,
-            memory,
-            word,
-            look,
-            want,
-            links,
-            numbers,
-            values,
-        );
+        return leave(above, left, tables, memory, word, values);
     }
     if kind == ALTERNATIVE {
-        return leave(
-            above,
-            left,
-            table,
-            memory,
-            word,
-            look,
-            want,
-            links,
-            numbers,
-            values,
-        );
+        return leave(above, left, tables, memory, word, values);
     }
     if kind == STAR {
-        return ask(
-            above,
-            left,
-            table,
-            memory,
-            word,
-            look,
-            want,
-            links,
-            numbers,
-            values,
-        );
+        return ask(above, left, tables, memory, word, values);
     }
     if kind != PIPE {
         return false;
@@ -374,31 +208,9 @@ pub(crate) fn leave(
     if part1(entry) != row {
         return true;
     }
-    let thread = enter(
-        part2(entry),
-        left,
-        table,
-        memory,
-        word,
-        look,
-        want,
-        links,
-        numbers,
-        values,
-    );
+    let thread = enter(part2(entry), left, tables, memory, word, values);
     if thread == BLOCKED {
         return false;
     }
-    leave(
-        above,
-        left,
-        table,
-        memory,
-        word,
-        look,
-        want,
-        links,
-        numbers,
-        values,
-    )
+    leave(above, left, tables, memory, word, values)
 }

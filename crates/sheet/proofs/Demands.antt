@@ -50,6 +50,8 @@ use Rattle.monitor.proofs.Program as program
 use Rattle.monitor.proofs.Calls as calls
 use Rattle.monitor.proofs.step.Statement as step
 use Rattle.monitor.proofs.step.Met as step-met
+use Rattle.monitor.proofs.tables_of.Statement as tables-of
+use Rattle.monitor.proofs.tables_of.Met as tables-of-met
 use Rattle.monitor.proofs.refused_by.Statement as refused-by
 use Rattle.monitor.proofs.refused_by.Met as refused-by-met
 use Rattle.monitor.proofs.tick.Statement as tick
@@ -95,9 +97,12 @@ run-entry = run-met.met
 pub finish-entry : {M : Type 1} → finish.statement M
 finish-entry = finish-met.met
 
--- one tick on lent tables, and 16, 17, 15
+-- one tick on lent tables, a watch's tables, and 16, 17, 15
 pub step-entry : {M : Type 1} → step.statement M
 step-entry = step-met.met
+
+pub tables-of-entry : {M : Type 1} → tables-of.statement M
+tables-of-entry = tables-of-met.met
 
 pub refused-by-entry : {M : Type 1} → refused-by.statement M
 refused-by-entry = refused-by-met.met

@@ -29,19 +29,6 @@ put-two {o} {o₁} {o₂} {xs} {ys} {a} {a₁} {a₂} p q =
       behind = omega (arith, length-append xs ys);
     }
 
--- a turn of `put_text`: the byte at i, and then those behind it
-pub text-more : (o₀ o o′ text : List ℕ) (at place place′ i : ℕ) → i < length text → sets o₀ at text ≡ sets o place (drop i text)
-    → o′ ≡ set o place (getD text i 0) → place′ ≡ place + 1 → sets o₀ at text ≡ sets o′ place′ (drop (i + 1) text)
-text-more o₀ o o′ text at place place′ i h e p q =
-    let s : suc place ≡ place′ = omega (arith, q) in
-    let t : suc i ≡ i + 1 = omega arith in
-    e ∙ ap (sets o place) (drop-cons text i 0 h)
-    ∙ ap₂ (λ (l : List ℕ) (m : ℕ). sets l m (drop (suc i) text)) (sym p) s
-    ∙ ap (λ (m : ℕ). sets o′ place′ (drop m text)) t
-
-pub text-end : (o₀ o text : List ℕ) (at place i : ℕ) → length text ≤ i → sets o₀ at text ≡ sets o place (drop i text) → o ≡ sets o₀ at text
-text-end o₀ o text at place i h e = sym (e ∙ ap (sets o place) (drop-of-length-le text h))
-
 -- ---- digits
 
 pub digit-low : (d : ℕ) → d < 10 → 48 + d ≡ hexDigit d

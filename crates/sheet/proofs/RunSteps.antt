@@ -19,10 +19,10 @@ use Rattle.meaning.specs.Calls as calls
 use Rattle.meaning.specs.Sheet.{refusalLine}
 use Rattle.rules.specs.declared.Watch.{Watch}
 use Rattle.rules.proofs.Overlay.{sets-behind}
-use Rattle.monitor.specs.Calls.{stateOf, withState, givenOf, layoutOf, stepFrom, refusedBy, replyOf, watchAfter}
-use Rattle.monitor.specs.Letters.{Given}
-use Rattle.monitor.specs.Ticks.{Layout, within, Reached, Move, move, moveBy, marksAfter, writeMarked, monitorsGo, emptyMemory, stepWithin, stepOf}
-use Rattle.monitor.proofs.TickSteps.{call-refused, call-bad, call-ok, few-ticks, one-tick}
+use Rattle.monitor.specs.Calls.{stateOf, withState, tablesOf, givenOf, layoutOf, stepFrom, refusedBy, replyOf, watchAfter}
+use Rattle.monitor.specs.Letters.{Given, given}
+use Rattle.monitor.specs.Ticks.{Layout, within, Reached, Move, move, moveBy, marksAfter, writeMarked, writers, monitorsGo, emptyMemory, stepWithin, stepOf}
+use Rattle.monitor.proofs.TickSteps.{lent-step, call-refused, call-bad, call-ok, few-ticks, one-tick}
 use Rattle.sheet.specs.Lines.{Run, run, Ran, ran, printing, onReply, onRead, okLine, badLine, runOn, runOver}
 use Rattle.sheet.specs.Items.{itemOf}
 use Rattle.sheet.specs.declared.ticking.Item.{Item as CodeItem}
@@ -118,10 +118,10 @@ bad-keeps g y marks i K σ e h = by (monitorsGo g (within y) marks (within y .mo
     by a e = cases (ltb (a .monitor) (within y .monitors)) refl e
       where
         next : List ℕ
-        next = marksAfter (within y .letters) (a .memory)
+        next = marksAfter 256 (a .memory)
 
         other : Move
-        other = move (a .monitor) next (writeMarked g next (within y .letters) 0 (g .values))
+        other = move (a .monitor) next (writeMarked g next (writers g (within y .letters)) 0 (g .values))
 
         cases : (b : Bool) → ltb (a .monitor) (within y .monitors) ≡ b → move i K σ ≡ cond b (move (a .monitor) marks (g .values)) other
             → move i K σ ≡ move i marks (g .values)
@@ -247,7 +247,11 @@ module _ {v₀ : Watch} {b₀ : ℕ} {records out₀ : List ℕ} {at : ℕ} {out
         pub going-few : k ≡ 0 → v .ticks < 1000000
         going-few q = few-ticks v w k d q
 
-        module _ (q : k ≡ 0) (i : ℕ) (K σ : List ℕ) (s : move i K σ ≡ stepFrom v (stateOf v .inner) w) (b : Bool) (f : b ≡ ltb i (min (v .monitors) 32)) where
+        module _ (q : k ≡ 0) (t : List (List ℕ)) (lent : t ≡ tablesOf v) (i : ℕ) (K σ : List ℕ) (stepped : move i K σ ≡ stepOf (given t (v .values) w) (layoutOf v) (v .marks))
+            (b : Bool) (f : b ≡ ltb i (min (v .monitors) 32)) where
+          s : move i K σ ≡ stepFrom v (stateOf v .inner) w
+          s = lent-step v (stateOf v .inner) w t (move i K σ) lent stepped
+
           pub going-bad : b ≡ true → Leaves (badLine (v .ticks) w i) (run (withState v (record { inner = record { marks = K; values = σ }; oks = v .ticks; stopped = true })) last) true
           going-bad y new stop =
               let u = withState v (record { inner = record { marks = K; values = σ }; oks = v .ticks; stopped = true }) in

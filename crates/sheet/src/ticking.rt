@@ -5,9 +5,9 @@ use super::lines::put_bad;
 use super::lines::put_ok;
 use super::lines::put_refusal;
 use super::page::pairs;
-use monitor::Moved;
 use monitor::refused_by;
 use monitor::step;
+use monitor::tables_of;
 use rules::Watch;
 use trace::Read;
 use trace::read_record;
@@ -79,7 +79,8 @@ pub struct Ran {
 // What a run comes to, where the watch has moved on.
 fn leave(
     watch: Watch,
-    state: Moved,
+    marks: [u8; 288],
+    values: [u64; 16],
     ticks: u64,
     stopped: bool,
     before: u64,
@@ -87,10 +88,8 @@ fn leave(
     at: usize,
     ended: bool,
 ) -> Ran
-    ensures { λ r. ⌜ r ≡ record { watch = withState watch (record { inner = record { marks = state .marks; values = state .values }; oks = ticks; stopped = stopped }); before = before; used = used; at = at; ended = ended } ⌝ }
+    ensures { λ r. ⌜ r ≡ record { watch = withState watch (record { inner = record { marks = marks; values = values }; oks = ticks; stopped = stopped }); before = before; used = used; at = at; ended = ended } ⌝ }
 {
-    let marks = state.marks;
-    let values = state.values;
     let mut now = watch;
     now.marks = marks;
     now.values = values;
@@ -116,16 +115,12 @@ pub(crate) fn run_from(watch: Watch, before: u64, records: &[u8], out: &mut [u8]
         × (r .at ≡ at + length (runOver (run watch before) (now (records .entry)) .printed))
         × (r .used ≤ length (now (records .entry))) × (r .at ≤ 64000200) ⌝ }
 {
+    let tables = tables_of(watch);
     let digits = pairs();
     let mut line = [b' '; 41];
     let mut from = lay(watch.ticks, &mut line);
-    let first = watch.marks;
-    let stored = watch.values;
-    let mut state = Moved {
-        monitor: 0,
-        marks: first,
-        values: stored,
-    };
+    let mut marks = watch.marks;
+    let mut values = watch.values;
     let mut ticks = watch.ticks;
     let mut last = before;
     let mut used: usize = 0;
@@ -133,36 +128,59 @@ pub(crate) fn run_from(watch: Watch, before: u64, records: &[u8], out: &mut [u8]
     loop {
         let next = read_item(&records[used..], last);
         if next.number == 13 {
-            return leave(watch, state, ticks, watch.stopped, last, used, place, false);
+            return leave(
+                watch,
+                marks,
+                values,
+                ticks,
+                watch.stopped,
+                last,
+                used,
+                place,
+                false,
+            );
         }
         if next.number != 0 {
             let end = put_refusal(next.number, ticks, out, place);
-            return leave(watch, state, ticks, watch.stopped, last, used, end, true);
+            return leave(
+                watch,
+                marks,
+                values,
+                ticks,
+                watch.stopped,
+                last,
+                used,
+                end,
+                true,
+            );
         }
         let word = next.word;
         let number = refused_by(watch.stopped, ticks, watch.wires, word);
         if number != 0 {
             let end = put_refusal(number, ticks, out, place);
-            return leave(watch, state, ticks, watch.stopped, last, used, end, true);
+            return leave(
+                watch,
+                marks,
+                values,
+                ticks,
+                watch.stopped,
+                last,
+                used,
+                end,
+                true,
+            );
         }
-        let marks = state.marks;
-        let values = state.values;
-        state = step(
-            &watch.table,
-            &watch.look,
-            &watch.want,
-            &watch.links,
-            &watch.numbers,
+        let monitor = step(
+            &tables,
             &watch.places,
             &watch.own,
             &watch.firsts,
             watch.monitors,
             watch.letters,
-            marks,
-            values,
+            &mut marks,
+            &mut values,
             word,
         );
-        let monitor = state.monitor;
         if is_bad(monitor, watch.monitors) {
             let end = put_bad(
                 ticks,
@@ -174,7 +192,7 @@ pub(crate) fn run_from(watch: Watch, before: u64, records: &[u8], out: &mut [u8]
                 out,
                 place,
             );
-            return leave(watch, state, ticks, true, last, used, end, true);
+            return leave(watch, marks, values, ticks, true, last, used, end, true);
         }
         place = put_ok(ticks, word, &digits, &mut line, from, out, place);
         from = count_on(ticks, from, &mut line);

@@ -10,13 +10,13 @@ element-copy-out-if1 : tie.Need-element-copy-out-if1
 element-copy-out-if1 c = search needs
 
 returns : tie.Need-returns
-returns c = λ T A B S. not-written (given T A B (c .before .before .args .links .now) (c .before .before .args .numbers .now) S (c .before .before .args .word)) (c .before .before .args .marks .now) (c .before .before .args .letter) (c .before .before .args .values .now) (c .if1 .taken)
+returns c = λ S. not-written (given (c .before .before .args .tables .now) S (c .before .before .args .word)) (c .before .before .args .marks .now) (c .before .before .args .letter) (c .before .before .args .values .now) (c .if1 .taken)
 
 write-letter-requires : tie.Need-write-letter-requires
 write-letter-requires c κs = search needs
 
 returns-2 : tie.Need-returns-2
-returns-2 c = λ T A B S. written (given T A B (c .before .before .before .before .args .links .now) (c .before .before .before .before .args .numbers .now) S (c .before .before .before .before .args .word)) (c .before .before .before .before .args .marks .now) (c .before .before .before .before .args .letter) (c .before .before .before .before .args .values .now) _ (c .before .before .if1 .left) (c .write-letter .ensures T A B S)
+returns-2 c = λ S. written (given (c .before .before .before .before .args .tables .now) S (c .before .before .before .before .args .word)) (c .before .before .before .before .args .marks .now) (c .before .before .before .before .args .letter) (c .before .before .before .before .args .values .now) _ (c .before .before .if1 .left) (c .write-letter .ensures S)
 
 pub write-if-spec : {M : Type 1} → statement M
 write-if-spec = tie.close (tie.spec element-copy-out-if1 returns write-letter-requires returns-2)

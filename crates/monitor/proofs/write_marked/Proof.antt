@@ -1,41 +1,48 @@
 -- `monitor::write_marked` meets its contract.
 -- Assumes nothing.
-use Prim.Native.Nat.{ℕ, _≤_, _-_}
+use Prim.Native.Nat.{ℕ, _+_, _-_}
 use borrow.Author.Needs.{needs}
 use mathlib.Core.List.{List}
 use mathlib.Core.Path.{_≡_, _∙_}
 use native.Mathlib.Omega.{arith}
-use Rattle.monitor.proofs.TickSteps.{none-written, written-more, written-all}
+use Rattle.monitor.proofs.Marked.{first-above}
+use Rattle.monitor.proofs.TickSteps.{written-first, written-more, written-all}
 use Rattle.monitor.specs.Letters.{given}
 use Rattle.monitor.specs.Ticks.{writeMarked}
 use Rattle.monitor.proofs.write_marked.Statement.{statement}
 use Rattle.monitor.proofs.write_marked.Tie as tie
 
 abbrev Inv-loop : tie.InvT-loop
-Inv-loop letters word marks links numbers values₀ i₀ values i = (i ≤ letters) × ((T A B S : List ℕ) → writeMarked (given T A B links numbers S word) marks letters 0 values₀ ≡ writeMarked (given T A B links numbers S word) marks (letters - i) i values)
+Inv-loop letters word marks tables values₀ i₀ values i = (S : List ℕ) → writeMarked (given tables S word) marks letters 0 values₀ ≡ writeMarked (given tables S word) marks (letters - i) i values
 
 abbrev μ-loop : tie.MeasureT-loop
-μ-loop letters word marks links numbers values₀ i₀ values i = letters - i
-
-loop-holds : tie.Need-loop-holds Inv-loop μ-loop
-loop-holds c = (omega arith, λ T A B S. none-written _ _ _ _)
-
-write-if-requires : tie.Need-write-if-requires Inv-loop μ-loop
-write-if-requires c κs = search needs
-
-add-i : tie.Need-add-i Inv-loop μ-loop
-add-i c = search needs
-
-loop-less : tie.Need-loop-less Inv-loop μ-loop
-loop-less c = omega arith
-
-loop-again : tie.Need-loop-again Inv-loop μ-loop
-loop-again c = (omega arith, λ T A B S. c .before .before .before .loop .inv .1 T A B S ∙ written-more (given T A B (c .before .before .before .before .args .links .now) (c .before .before .before .before .args .numbers .now) S (c .before .before .before .before .args .word)) (c .before .before .before .before .args .marks .now) _ _ _ _ (omega arith) (c .write-if .ensures T A B S))
-
-returns : tie.Need-returns Inv-loop μ-loop
-returns c = λ T A B S. written-all (given T A B (c .before .before .args .links .now) (c .before .before .args .numbers .now) S (c .before .before .args .word)) (c .before .before .args .marks .now) (c .before .before .args .letters) _ (c .before .before .args .values .now) _ (omega arith) (c .before .loop .inv .1 T A B S)
+μ-loop letters word marks tables values₀ i₀ values i = letters - i
 
 pub write-marked-spec : {M : Type 1} → statement M
 write-marked-spec =
     tie.close
-    (tie.spec Inv-loop μ-loop loop-holds write-if-requires add-i loop-less loop-again returns)
+    (tie.spec
+    Inv-loop
+    μ-loop
+    (λ c κs. search needs)
+    (λ c S.
+    let a = c .before .args in
+    let g = given (a .tables .now) S (a .word) in
+    written-first g (a .marks .now) (a .letters) (a .values .now) _ (c .first-marked .ensures))
+    (λ c κs. search needs)
+    (λ c. search needs)
+    (λ c κs. search needs)
+    (λ c.
+    let l = c .before .before .before .before .loop in
+    let a = c .before .before .before .before .before .before .args in
+    let h = first-above (a .marks .now) (a .letters - (l .i + 1)) (l .i + 1) in
+    omega (arith, h, c .first-marked2 .ensures))
+    (λ c S.
+    let l = c .before .before .before .before .loop in
+    let a = c .before .before .before .before .before .before .args in
+    let g = given (a .tables .now) S (a .word) in
+    l .inv S ∙ written-more g (a .marks .now) (a .letters) (l .i) (l .values) _ (omega arith) (c .before .write-if .ensures S) _ (c .first-marked2 .ensures))
+    (λ c S.
+    let l = c .before .loop in
+    let a = c .before .before .before .args in
+    written-all (given (a .tables .now) S (a .word)) (a .marks .now) (a .letters) (l .i) (a .values .now) _ (omega arith) (l .inv S)))

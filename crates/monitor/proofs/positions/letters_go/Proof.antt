@@ -1,42 +1,22 @@
 -- `monitor::positions::letters_go` meets its contract.
 -- Assumes nothing.
-use Prim.Native.Nat.{_-_}
+use Prim.Native.Nat.{_+_, _-_}
 use borrow.Author.Needs.{needs}
 use borrow.Author.Tests.{not-true, not-false}
-use mathlib.Core.Path.{_≡_, refl, _∙_}
+use mathlib.Core.Path.{_≡_, _∙_}
 use native.Mathlib.Omega.{arith}
-use Rattle.monitor.proofs.TickSteps.{letters-more, letters-stop, letters-all}
+use Rattle.monitor.proofs.Marked.{first-above}
+use Rattle.monitor.proofs.TickSteps.{letters-first, letters-more, letters-stop, letters-all}
 use Rattle.monitor.specs.Letters.{given}
 use Rattle.monitor.specs.Ticks.{lettersGo}
 use Rattle.monitor.proofs.positions.letters_go.Statement.{statement}
 use Rattle.monitor.proofs.positions.letters_go.Tie as tie
 
 abbrev Inv-loop : tie.InvT-loop
-Inv-loop from to marks places table memory₀ word look want links numbers values letter₀ memory letter = lettersGo (given table look want links numbers values word) places marks (to - from) from memory₀ ≡ lettersGo (given table look want links numbers values word) places marks (to - letter) letter memory
+Inv-loop from to marks places tables memory₀ word values letter₀ memory letter = lettersGo (given tables values word) places marks (to - from) from memory₀ ≡ lettersGo (given tables values word) places marks (to - letter) letter memory
 
 abbrev μ-loop : tie.MeasureT-loop
-μ-loop from to marks places table memory₀ word look want links numbers values letter₀ memory letter = to - letter
-
-loop-holds : tie.Need-loop-holds Inv-loop μ-loop
-loop-holds c = refl
-
-letter-goes-requires : tie.Need-letter-goes-requires Inv-loop μ-loop
-letter-goes-requires c κs = search needs
-
-returns : tie.Need-returns Inv-loop μ-loop
-returns c = letters-stop (given (c .before .before .before .before .before .args .table .now) (c .before .before .before .before .before .args .look .now) (c .before .before .before .before .before .args .want .now) (c .before .before .before .before .before .args .links .now) (c .before .before .before .before .before .args .numbers .now) (c .before .before .before .before .before .args .values .now) (c .before .before .before .before .before .args .word)) (c .before .before .before .before .before .args .places .now) (c .before .before .before .before .before .args .marks .now) (c .before .before .before .before .before .args .to) _ _ _ _ _ (omega arith) (c .before .letter-goes .ensures) (not-true _ (c .if1 .taken)) (c .before .before .before .before .loop .inv)
-
-add-letter : tie.Need-add-letter Inv-loop μ-loop
-add-letter c = search needs
-
-loop-less : tie.Need-loop-less Inv-loop μ-loop
-loop-less c = omega arith
-
-loop-again : tie.Need-loop-again Inv-loop μ-loop
-loop-again c = c .before .before .before .before .loop .inv ∙ letters-more (given (c .before .before .before .before .before .args .table .now) (c .before .before .before .before .before .args .look .now) (c .before .before .before .before .before .args .want .now) (c .before .before .before .before .before .args .links .now) (c .before .before .before .before .before .args .numbers .now) (c .before .before .before .before .before .args .values .now) (c .before .before .before .before .before .args .word)) (c .before .before .before .before .before .args .places .now) (c .before .before .before .before .before .args .marks .now) (c .before .before .before .before .before .args .to) _ _ _ _ (omega arith) (c .before .letter-goes .ensures) (not-false _ (c .if1 .left))
-
-returns-2 : tie.Need-returns-2 Inv-loop μ-loop
-returns-2 c = letters-all (given (c .before .before .args .table .now) (c .before .before .args .look .now) (c .before .before .args .want .now) (c .before .before .args .links .now) (c .before .before .args .numbers .now) (c .before .before .args .values .now) (c .before .before .args .word)) (c .before .before .args .places .now) (c .before .before .args .marks .now) (c .before .before .args .to) _ _ _ (omega arith) (c .before .loop .inv)
+μ-loop from to marks places tables memory₀ word values letter₀ memory letter = to - letter
 
 pub letters-go-spec : {M : Type 1} → statement M
 letters-go-spec =
@@ -44,10 +24,27 @@ letters-go-spec =
     (tie.spec
     Inv-loop
     μ-loop
-    loop-holds
-    letter-goes-requires
-    returns
-    add-letter
-    loop-less
-    loop-again
-    returns-2)
+    (λ c κs. search needs)
+    (λ c.
+    let a = c .before .args in
+    let g = given (a .tables .now) (a .values .now) (a .word) in
+    letters-first g (a .places .now) (a .marks .now) (a .to) (a .from) (a .memory .now) _ (c .first-marked .ensures))
+    (λ c κs. search needs)
+    (λ c.
+    let a = c .before .before .before .before .before .before .args in
+    letters-stop (given (a .tables .now) (a .values .now) (a .word)) (a .places .now) (a .marks .now) (a .to) _ _ _ _ _ (omega arith) (c .before .letter-goes .ensures) (not-true _ (c .if1 .taken)) (c .before .before .before .before .loop .inv))
+    (λ c. search needs)
+    (λ c κs. search needs)
+    (λ c.
+    let l = c .before .before .before .before .before .loop in
+    let a = c .before .before .before .before .before .before .before .args in
+    let h = first-above (a .marks .now) (a .to - (l .letter + 1)) (l .letter + 1) in
+    omega (arith, h, c .first-marked2 .ensures))
+    (λ c.
+    let l = c .before .before .before .before .before .loop in
+    let a = c .before .before .before .before .before .before .before .args in
+    let g = given (a .tables .now) (a .values .now) (a .word) in
+    l .inv ∙ letters-more g (a .places .now) (a .marks .now) (a .to) (l .letter) (l .memory) _ _ (omega arith) (c .before .before .letter-goes .ensures) (not-false _ (c .before .if1 .left)) _ (c .first-marked2 .ensures))
+    (λ c.
+    let a = c .before .before .before .args in
+    letters-all (given (a .tables .now) (a .values .now) (a .word)) (a .places .now) (a .marks .now) (a .to) _ _ _ (omega arith) (c .before .loop .inv)))

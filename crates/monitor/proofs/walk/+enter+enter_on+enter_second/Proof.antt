@@ -20,13 +20,13 @@ use Rattle.monitor.proofs.walk.enter_letter.Reads as enter-letter
 use Rattle.monitor.proofs.walk.+enter+enter_on+enter_second.{statement}
 use Rattle.monitor.proofs.walk.+enter+enter_on+enter_second.Tie.{close}
 
-abbrev μ-enter : Measures 7 enter-kinds.ps ℕ
+abbrev μ-enter : Measures 3 enter-kinds.ps ℕ
 μ-enter κs a = 3 * a .1 .0
 
-abbrev μ-enter-on : Measures 7 enter-on-kinds.ps ℕ
+abbrev μ-enter-on : Measures 3 enter-on-kinds.ps ℕ
 μ-enter-on κs a = 3 * a .1 .0 + 2
 
-abbrev μ-enter-second : Measures 7 enter-second-kinds.ps ℕ
+abbrev μ-enter-second : Measures 3 enter-second-kinds.ps ℕ
 μ-enter-second κs a = 3 * a .1 .1 .0 + 1
 
 pub +enter+enter-on+enter-second-spec : {M : Type 1} → statement M
@@ -40,6 +40,7 @@ pub +enter+enter-on+enter-second-spec : {M : Type 1} → statement M
     (λ c. search needs)
     (λ c. search needs)
     (λ c. search needs)
+    (λ c. search needs)
     (λ c κs. search needs)
     (λ c. search needs)
     (λ c. search enter-found))
@@ -47,7 +48,7 @@ pub +enter+enter-on+enter-second-spec : {M : Type 1} → statement M
     (λ c κs. search needs)
     (λ c κs. search needs)
     (λ c κs. search needs)
-    (λ c. search (on-letter, c .enter-letter .ensures))
+    (λ c. search on-letter)
     (λ c κs. search needs)
     (λ c κs. search needs)
     (λ c κs. search needs)

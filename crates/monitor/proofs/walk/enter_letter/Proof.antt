@@ -9,9 +9,9 @@ pub enter-letter-spec : {M : Type 1} → statement M
 enter-letter-spec =
     tie.close
     (tie.spec
-    (λ c T. search letter-far)
+    (λ c. search letter-far)
     (λ c κs. search needs)
-    (λ c T. search (letter-unmet, c .before .letter-met .ensures))
+    (λ c. search letter-unmet)
     (λ c. search needs)
     (λ c. search needs)
-    (λ c T. search (letter-marked, c .before .letter-met .ensures)))
+    (λ c. search letter-marked))

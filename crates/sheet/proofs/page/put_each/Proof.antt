@@ -6,7 +6,7 @@ use lib.ListN.{length, drop}
 use lib.Seq.{sets, length-sets}
 use mathlib.Core.Path.{_≡_, ap, _∙_}
 use native.Mathlib.Omega.{arith}
-use Rattle.sheet.proofs.PageSteps.{text-more, text-end}
+use Rattle.monitor.proofs.Stored.{put-more, put-end}
 use Rattle.sheet.proofs.page.put_each.Statement.{statement}
 use Rattle.sheet.proofs.page.put_each.Tie as tie
 
@@ -36,19 +36,19 @@ loop-again c =
     let p = c .before .before .put in
     let l = c .before .before .before .before .before .before .loop in
     let a = c .before .before .before .before .before .before .before .before .before .args in
-    (omega arith, omega arith, text-more (a .out .now) (l .out) (p .last .1 .0) (a .text .now) (a .at) (l .place) (p .result) (l .i) (omega arith) (l .inv .2) (p .ensures .0) (p .ensures .1))
+    (omega arith, omega arith, put-more (a .out .now) (l .out) (p .last .1 .0) (a .text .now) (a .at) (l .place) (p .result) (l .i) (omega arith) (l .inv .2) (p .ensures .0) (p .ensures .1))
 
 same-length : tie.Need-same-length Inv-loop μ-loop
 same-length c =
     let l = c .before .loop in
     let a = c .before .before .before .before .args in
-    ap length (text-end (a .out .now) (l .out) (a .text .now) (a .at) (l .place) (l .i) (omega arith) (l .inv .2)) ∙ length-sets (a .out .now) (a .at) (a .text .now)
+    ap length (put-end (a .out .now) (l .out) (a .text .now) (a .at) (l .place) (l .i) (omega arith) (l .inv .2)) ∙ length-sets (a .out .now) (a .at) (a .text .now)
 
 returns : tie.Need-returns Inv-loop μ-loop
 returns c =
     let l = c .before .loop in
     let a = c .before .before .before .before .args in
-    (text-end (a .out .now) (l .out) (a .text .now) (a .at) (l .place) (l .i) (omega arith) (l .inv .2), omega arith)
+    (put-end (a .out .now) (l .out) (a .text .now) (a .at) (l .place) (l .i) (omega arith) (l .inv .2), omega arith)
 
 pub put-each-spec : {M : Type 1} → statement M
 put-each-spec =

@@ -5,7 +5,7 @@ use lib.ListN.{length, drop, length-set}
 use lib.Seq.{sets}
 use mathlib.Core.Path.{_≡_, refl, ap}
 use native.Mathlib.Omega.{arith}
-use Rattle.sheet.proofs.PageSteps.{text-more, text-end}
+use Rattle.monitor.proofs.Stored.{put-more, put-end}
 use Rattle.sheet.proofs.page.store.Statement.{statement}
 use Rattle.sheet.proofs.page.store.Tie as tie
 
@@ -37,7 +37,7 @@ loop-again : tie.Need-loop-again Inv-loop μ-loop
 loop-again c =
     let l = c .before .before .loop in
     let a = c .before .before .before .args in
-    (omega arith, simp length-set (l .inv .1), text-more (a .out .now) (l .out) _ (a .text .now) (a .at) (a .at + l .i) _ (l .i) (omega arith) (l .inv .2) refl (omega arith))
+    (omega arith, simp length-set (l .inv .1), put-more (a .out .now) (l .out) _ (a .text .now) (a .at) (a .at + l .i) _ (l .i) (omega arith) (l .inv .2) refl (omega arith))
 
 add-result : tie.Need-add-result Inv-loop μ-loop
 add-result c = search needs
@@ -49,7 +49,7 @@ returns : tie.Need-returns Inv-loop μ-loop
 returns c =
     let l = c .before .loop in
     let a = c .before .before .args in
-    (text-end (a .out .now) (l .out) (a .text .now) (a .at) (a .at + l .i) (l .i) (omega arith) (l .inv .2), omega arith)
+    (put-end (a .out .now) (l .out) (a .text .now) (a .at) (a .at + l .i) (l .i) (omega arith) (l .inv .2), omega arith)
 
 pub store-spec : {M : Type 1} → statement M
 store-spec =

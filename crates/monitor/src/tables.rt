@@ -1,0 +1,74 @@
+// The tables that a tick is lent, laid out once for many ticks (specs/Calls.antt): through one reference, so that the walk's calls
+// pass few arguments.
+use rules::Watch;
+ghost use mathlib.Core.Path.{_≡_};
+ghost use Prim.Native.Nat.{_+_, _≤_};
+ghost use lib.ListN.{length};
+ghost use lib.Seq.{sets};
+ghost use Rattle.monitor.specs.Calls.{writersOf, tablesOf};
+
+// The rows, each in one word.
+pub(crate) const ROWS: usize = 0;
+
+// The letters' links and their numbers, four of each a letter.
+pub(crate) const LINKS: usize = 1;
+
+pub(crate) const NUMBERS: usize = 2;
+
+// The wires that each letter looks at; and from here on the values that it wants.
+pub(crate) const LETTERS: usize = 3;
+
+pub(crate) const WANTED: usize = 256;
+
+// How many letters there are up to the last that writes.
+pub(crate) const WRITERS: usize = 512;
+
+// One word a letter into a table, from a place on.
+fn place(words: &[u64; 256], at: usize, table: &mut [u64; 1024])
+    requires { ⌜ (at + 256 ≤ 1024) × (length (now words) ≡ 256) ⌝ }
+    ensures { λ _. ⌜ now (table .exit) ≡ sets (now (table .entry)) at (now (words .entry)) ⌝ }
+{
+    let mut i: usize = 0;
+    while i < 256 {
+        table[at + i] = words[i];
+        i += 1;
+    }
+}
+
+// Of so many letters those up to the last that has a write.
+fn writers_of(links: &[u64; 1024], letters: usize) -> usize
+    requires { ⌜ letters ≤ 256 ⌝ }
+    ensures { λ r. ⌜ r ≡ writersOf (now (links .entry)) letters ⌝ }
+{
+    let mut n = letters;
+    while 0 < n {
+        let last = n - 1;
+        if links[4 * last + 2] != 0 {
+            return n;
+        }
+        if links[4 * last + 3] != 0 {
+            return n;
+        }
+        n = last;
+    }
+    0
+}
+
+// The tables of a watch.
+pub fn tables_of(watch: Watch) -> [[u64; 1024]; 4]
+    ensures { λ r. ⌜ r ≡ tablesOf watch ⌝ }
+{
+    let rows = watch.table;
+    let links = watch.links;
+    let numbers = watch.numbers;
+    let mut letters = [0u64; 1024];
+    place(&watch.look, 0, &mut letters);
+    place(&watch.want, WANTED, &mut letters);
+    letters[WRITERS] = writers_of(&links, 256) as u64;
+    let mut tables = [[0u64; 1024]; 4];
+    tables[ROWS] = rows;
+    tables[LINKS] = links;
+    tables[NUMBERS] = numbers;
+    tables[LETTERS] = letters;
+    tables
+}
