@@ -105,6 +105,35 @@ fn chain() -> (Vec<u8>, Vec<u64>) {
     (text.into_bytes(), (0..200).chain([255]).collect())
 }
 
+/// A chain of `n` starred letters and one more: 3n + 1 rows. A word that meets the last letter asks every row at each tick; one that meets the first, whose star goes
+/// round, asks two.
+fn stars(n: usize) -> Vec<u8> {
+    let mut text = String::from("input F[7:0];\nchain -> ");
+    for k in 0..n {
+        text += &format!("(F == {k})*, ");
+    }
+    text += &format!("F == {n};\nmonitor chain;\n");
+    text.into_bytes()
+}
+
+/// Times of texts of more and more rows, all asked at each tick; and of the largest with two asked.
+fn linear() {
+    for (n, last) in [(16, true), (33, true), (66, true), (133, true), (255, true), (255, false)] {
+        let text = stars(n);
+        let trace = records(&vec![if last { n as u64 } else { 0 }; TICKS]);
+        let mut range = vec![1; 64 * (TICKS + 4)];
+        let mut best = f64::MAX;
+        for _ in 0..RUNS {
+            let start = Instant::now();
+            proved(&text, &trace, &mut range);
+            best = best.min(start.elapsed().as_secs_f64());
+        }
+        let asked = if last { 3 * n + 1 } else { 2 };
+        let tick = best * 1e9 / TICKS as f64;
+        println!("(e) chain of {} rows, {asked} asked: {tick:.0} ns a tick, {:.2} ns a row asked", 3 * n + 1, tick / asked as f64);
+    }
+}
+
 fn main() {
     compare("(a) sample", SAMPLE, &[]);
     compare("(b) AHB slave of document 004", include_bytes!("../../../cases/ahb_slave_basic/rules.txt"), &[]);
@@ -112,4 +141,5 @@ fn main() {
     compare("(c) many positions", &text, &pool);
     let (text, pool) = chain();
     compare("(d) chain of stars", &text, &pool);
+    linear();
 }

@@ -1,0 +1,96 @@
+// Ticks on watches that no opening gives, whose rows lead round in circles. A row is entered once a tick and leaving never forks, so
+// that each answer comes within some million calls (specs/Walk.antt of `monitor`); without that the first would take 2^4096.
+
+mod show;
+
+use rules::Watch;
+use words::quad;
+
+// The kinds of rows.
+const SEQUENCE: usize = 1;
+
+const ALTERNATIVE: usize = 2;
+
+const STAR: usize = 3;
+
+const PIPE: usize = 4;
+
+// Rows of one kind. The operands of a row and the row above it are so many rows further on, and the last is followed by the first.
+fn circle(kind: usize, left: usize, right: usize, up: usize) -> [u64; 1024] {
+    let mut rows = [0u64; 1024];
+    for i in 0..1024 {
+        rows[i] = quad(
+            kind,
+            (i + left % 1024) % 1024,
+            (i + right % 1024) % 1024,
+            (i + up % 1024) % 1024,
+        );
+    }
+    rows
+}
+
+// The same, but for the last row: an `@` whose left operand is the first row, so that who comes there from another has ended a thread.
+fn line(kind: usize) -> [u64; 1024] {
+    let mut rows = circle(kind, 1, 1, 1);
+    rows[1023] = quad(PIPE, 0, 0, 0);
+    rows
+}
+
+// Letters at each fourth row.
+fn fourth() -> [u16; 256] {
+    let mut places = [0u16; 256];
+    for i in 0..256 {
+        places[i] = (4 * i) as u16;
+    }
+    places
+}
+
+// All letters are marked, and all monitors are at their start, or none.
+fn marked(starts: u8) -> [u8; 288] {
+    let mut marks = [1u8; 288];
+    for i in 256..288 {
+        marks[i] = starts;
+    }
+    marks
+}
+
+// One tick of 32 monitors, each with row 0 as its own and the last with all 256 letters.
+fn tick(table: [u64; 1024], starts: u8) {
+    let places = fourth();
+    let marks = marked(starts);
+    let watch = Watch {
+        table,
+        rows: 1024,
+        look: [0; 256],
+        letters: 256,
+        want: [0; 256],
+        monitors: 32,
+        links: [0; 1024],
+        wires: 64,
+        numbers: [0; 1024],
+        stores: 0,
+        places,
+        own: [0; 32],
+        firsts: [0; 32],
+        values: [0; 16],
+        marks,
+        ticks: 0,
+        stopped: false,
+    };
+    let ticked = monitor::tick(watch, 0);
+    let answer = ticked.answer;
+    show::answer(answer);
+}
+
+fn main() {
+    // each operand is the next row, or the row itself, or rows further on: no letter is ever reached
+    tick(circle(ALTERNATIVE, 1, 1, 1), 1);
+    tick(circle(ALTERNATIVE, 0, 0, 1), 1);
+    tick(circle(SEQUENCE, 2, 3, 5), 1);
+    // stars around stars: each can be left, and the one above is asked again
+    tick(circle(STAR, 1, 0, 1), 1);
+    // every letter is left up a long line, which ends
+    tick(line(ALTERNATIVE), 0);
+    // and up one that does not
+    tick(circle(ALTERNATIVE, 1, 1, 1), 0);
+}
