@@ -9,10 +9,10 @@ use native.Mathlib.Nat.{div-one, pow-suc, mod-lt}
 use lib.Dec.{T, T-not, not-T, eqb, leb, ltb, eqb→eq, eqb-refl, leb→le, ltb→lt, le→leb, lt→ltb}
 use native.Mathlib.Decide.{decLt}
 use lib.Pow.{shr-shr, mod-mod-pow, pow-pos, field as field-shift}
-use Rattle.meaning.specs.Lists.{any, all, _∈_}
-use Rattle.meaning.specs.Expression.{Literal, wire, wire-store, store, Letter, field}
+use Rattle.meaning.specs.Lists.{any, all, below, _∈_}
+use Rattle.meaning.specs.Expression.{Literal, wire, wire-store, store, Letter, field, bit}
 use Rattle.meaning.specs.Shape.{wireHolds, meetsWires, Together, Unsatisfiable}
-use Rattle.meaning.specs.ShapeTests.{bit, asks, below, bits, agree, together, Sized, AllSized}
+use Rattle.meaning.specs.ShapeTests.{asks, bits, agree, together, Sized, AllSized}
 use Rattle.meaning.proofs.ListLaws.{here, there, append-∈, ∈-left, ∈-right, and-T, T-and, any-from, any-to, all-at, all-from}
 
 -- bit j of a field is bit lo + j of the word

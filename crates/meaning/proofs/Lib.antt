@@ -17,8 +17,6 @@ pub mod Sets
 pub mod Watch
 -- literals agree bit by bit exactly where a word meets them all
 pub mod Bits
--- the masks of literals are passed by the words that meet them, and are compatible where one word meets both
-pub mod Masks
 -- `renumbered` numbers letters in reading order, and changes neither size nor rows
 pub mod Numbering
 -- each list of letters at fault has exactly the letters of which the rule's statement holds

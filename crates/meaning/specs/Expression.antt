@@ -36,6 +36,10 @@ storeTests (store s v ∷ ls) = suc (storeTests ls)
 abbrev pub field : (lo width word : ℕ) → ℕ
 field lo width word = (word / 2 ^ lo) % 2 ^ width
 
+-- N4: one "bit" of a word
+abbrev pub bit : (i word : ℕ) → ℕ
+bit i word = (word / 2 ^ i) % 2
+
 -- ---- expressions ----
 
 -- G17: the operators

@@ -21,5 +21,4 @@ pub mod Examples
 pub mod ShapeTests
 pub mod Positions
 pub mod RowWalk
-pub mod Masks
 pub mod Summary

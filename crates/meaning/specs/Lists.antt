@@ -1,7 +1,7 @@
 -- Small functions on lists that the definitions share.
 use mathlib.Core.List.{List, [], _∷_, _++_, List·Memᴰ}
 use mathlib.Core.Bool.{Bool, true, false, cond, _&&_, _||_}
-use Prim.Native.Nat.{ℕ, _+_}
+use Prim.Native.Nat.{ℕ, zero, suc, _+_}
 use lib.Dec.{eqb}
 
 infix 50 _∈_
@@ -44,6 +44,11 @@ module _ {A : Type 0} where
   abbrev pub only : Bool → List A → List A
   only true xs = xs
   only false xs = []
+
+-- the numbers below n, from the highest on
+abbrev pub below : ℕ → List ℕ
+below zero = []
+below (suc n) = n ∷ below n
 
 abbrev pub member : ℕ → List ℕ → Bool
 member n ns = any (eqb n) ns

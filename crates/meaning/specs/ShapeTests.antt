@@ -3,11 +3,11 @@
 use mathlib.Core.List.{List, [], _∷_, _++_, map}
 use mathlib.Core.Bool.{Bool, false, not, _&&_}
 use mathlib.Core.Path.{_≡_}
-use Prim.Native.Nat.{ℕ, zero, suc, _+_, _-_, _/_, _%_, _^_, _<_, _≤_, min}
+use Prim.Native.Nat.{ℕ, _+_, _-_, _^_, _<_, _≤_, min}
 use lib.Dec.{eqb, leb, ltb}
 use Rattle.refusals.specs.Numbers.{impossible, hollow, openEnd, fork}
-use Rattle.meaning.specs.Lists.{_∈_, each, any, all, null, only}
-use Rattle.meaning.specs.Expression.{Literal, wire, wire-store, store, Letter, Exp, star, letters, Ordered}
+use Rattle.meaning.specs.Lists.{_∈_, each, any, all, null, only, below}
+use Rattle.meaning.specs.Expression.{Literal, wire, wire-store, store, Letter, bit, Exp, star, letters, Ordered}
 use Rattle.meaning.specs.Shape.{nullable, first, last, follow, threads, parts, head}
 
 -- S8: the groups of letters side by side. S6: "In a monitor as a whole its first letters come next after its last ones",
@@ -27,19 +27,11 @@ AllSized ls = (l : Literal) → l ∈ ls → Sized l
 abbrev pub SizedLetters : Exp → Type 0
 SizedLetters m = (l : Letter) → l ∈ letters m → AllSized (l .literals)
 
--- bit i of a number
-abbrev pub bit : ℕ → ℕ → ℕ
-bit i v = (v / 2 ^ i) % 2
-
 -- the literal asks that bit i of the word is b
 abbrev pub asks : (i b : ℕ) → Literal → Bool
 asks i b (wire lo width v) = leb lo i && ltb i (lo + width) && eqb (bit (i - lo) v) b
 asks i b (wire-store lo width s) = false
 asks i b (store s v) = false
-
-abbrev pub below : ℕ → List ℕ
-below zero = []
-below (suc n) = n ∷ below n
 
 -- the bits of a word
 abbrev pub bits : List ℕ

@@ -9,7 +9,7 @@ use lib.ListN.{length, length-append, length-map, length-replicate, getD, replic
 use lib.Seq.{sets, length-sets, getD-set-other}
 use Rattle.meaning.specs.Lists.{_∈_, each, total}
 use Rattle.meaning.specs.Expression.{Letter, Exp, letter, seq, alt, star, pipe, letters, size, Ordered}
-use Rattle.meaning.specs.Masks as masks
+use Rattle.masks.specs.Masks as masks
 use Rattle.meaning.proofs.ListLaws.{no-∈, cons-∈, ∈-each}
 use Rattle.meaning.proofs.Rows.{Stands}
 use Rattle.rules.specs.Cells.{Link, testsOn, writesOn}

@@ -7,7 +7,7 @@ use borrow.Author.Tests.{eq-eqb, ne-eqb}
 use lib.Dec.{eqb}
 use lib.Bits.{bitAnd}
 use lib.ListN.{getD, set}
-use Rattle.meaning.specs.Masks.{passes}
+use Rattle.masks.specs.Wires.{passes}
 use Rattle.words.specs.Words.{part0, part1, part2}
 use Rattle.monitor.specs.Letters.{Given, linkValue, testMet, letterMet, writeSlot, writeLetter}
 

@@ -14,11 +14,12 @@ use borrow.Author.Tests.{eqb-false, ne-eqb}
 use Rattle.meaning.specs.Lists.{all, carry}
 use Rattle.meaning.specs.Expression.{Literal, wire, wire-store, store, Write, from-wire, from-number, Letter, field}
 use Rattle.meaning.specs.Shape.{wireHolds}
-use Rattle.meaning.specs.Masks.{look, want, passes}
+use Rattle.masks.specs.Wires.{passes}
+use Rattle.masks.specs.Masks.{look, want}
 use Rattle.meaning.specs.Fit.{Tick, valueOf, holds, meets, write}
 use Rattle.lexer.proofs.Bools.{eqb-sym}
 use Rattle.meaning.proofs.ListLaws.{same-truth}
-use Rattle.meaning.proofs.Masks.{meets-passes, passes-meets}
+use Rattle.masks.proofs.Masks.{meets-passes, passes-meets}
 use Rattle.meaning.proofs.Within.{Each, Within, WriteWithin}
 use Rattle.words.specs.Words.{quad, part0}
 use Rattle.rules.specs.Cells.{Link, link, testsOn, writeLink, writesOn}

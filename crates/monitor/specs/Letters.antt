@@ -6,7 +6,7 @@ use Prim.Native.Nat.{ℕ, _+_, _*_, _/_, _%_, _^_}
 use lib.Dec.{eqb}
 use lib.Bits.{bitAnd}
 use lib.ListN.{getD, set}
-use Rattle.meaning.specs.Masks.{passes}
+use Rattle.masks.specs.Wires.{passes}
 use Rattle.words.specs.Words.{part0, part1, part2}
 
 -- What a tick is judged by: the rows, each in one word; the letters' links and their numbers; for each letter the wires that it looks at, and 256 places on the values that

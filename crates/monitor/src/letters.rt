@@ -3,6 +3,7 @@ use super::tables::LETTERS;
 use super::tables::LINKS;
 use super::tables::NUMBERS;
 use super::tables::WANTED;
+use masks::passes;
 use words::part0;
 use words::part1;
 use words::part2;
@@ -10,7 +11,6 @@ ghost use mathlib.Core.Path.{_≡_};
 ghost use mathlib.Core.List.{List};
 ghost use Prim.Native.Nat.{ℕ, _<_};
 ghost use lib.ListN.{getD, set};
-ghost use Rattle.meaning.specs.Masks.{passes};
 ghost use Rattle.monitor.specs.Letters.{given, linkValue, testMet, letterMet, writeSlot, writeLetter};
 
 // What a link's store is compared with, or what is written there.
@@ -43,13 +43,6 @@ fn test_met(slot: usize, word: u64, tables: &[[u64; 1024]; 4], values: &[u64; 16
         return true;
     }
     value_at(values, part0(link)) == link_value(link, tables[NUMBERS][slot], word)
-}
-
-// Whether each wire looked at has the value wanted.
-fn passes(look: u64, want: u64, word: u64) -> bool
-    ensures { λ r. ⌜ r ≡ passes look want word ⌝ }
-{
-    (word ^ want) & look == 0
 }
 
 // The letter test: wires and stores.

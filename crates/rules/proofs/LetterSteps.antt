@@ -10,7 +10,7 @@ use native.Mathlib.Omega.{arith}
 use lib.ListN.{length}
 use Rattle.meaning.specs.Expression.{Literal, Exp, aLetter, storeTests}
 use Rattle.lexer.specs.Bytes.{lookup}
-use Rattle.meaning.specs.Masks.{look, want}
+use Rattle.masks.specs.Masks.{look, want}
 use Rattle.meaning.specs.ShapeTests.{agree}
 use Rattle.meaning.proofs.ListLaws.{no-∈}
 use Rattle.meaning.specs.Answers.{Answer, refused, byte}

@@ -9,7 +9,7 @@ use lib.ListN.{length, set, length-append, length-map}
 use lib.Seq.{sets, set-comm}
 use Rattle.meaning.specs.Lists.{each}
 use Rattle.meaning.specs.Expression.{Letter}
-use Rattle.meaning.specs.Masks.{look, want}
+use Rattle.masks.specs.Masks.{look, want}
 use Rattle.meaning.proofs.ListLaws.{each-append}
 use Rattle.rules.specs.Cells.{Link, testsOn, writesOn}
 use Rattle.rules.specs.Laying.{RowCode, rowWord, withRows, slotWord, slotNumber, twoSlots, slotsOf, LetterLists, letterLists, withLetters}

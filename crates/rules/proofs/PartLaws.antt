@@ -12,7 +12,7 @@ use lib.ListN.{length, set, length-set}
 use Rattle.meaning.specs.Expression.{Letter, Exp, letter, seq, alt, star, pipe, letters, size, aLetter}
 use Rattle.meaning.specs.Shape.{nullable}
 use Rattle.meaning.specs.ShapeTests.{AllSized, SizedLetters}
-use Rattle.meaning.specs.Masks.{look, want}
+use Rattle.masks.specs.Masks.{look, want}
 use Rattle.meaning.specs.Summary.{impossibleAt, hollowAt}
 use Rattle.meaning.specs.Reading.{join}
 use Rattle.meaning.proofs.ListLaws.{append-∈, one-∈}

@@ -7,7 +7,7 @@ use native.Mathlib.Omega.{arith}
 use lib.ListN.{length, getD, set, length-set, List·getD-map}
 use lib.Seq.{sets, getD-set-same, getD-set-other}
 use Rattle.meaning.specs.Expression.{Letter, Exp, letter, seq, alt, star, pipe, letters, size, rows}
-use Rattle.meaning.specs.Masks as masks
+use Rattle.masks.specs.Masks as masks
 use Rattle.words.specs.Words.{part0, part1, part2}
 use Rattle.words.proofs.Quads.{quad-0, quad-1, quad-2}
 use Rattle.shape.specs.Walk.{kinds, lefts, rights}

@@ -7,7 +7,7 @@ use native.Mathlib.Omega.{arith}
 use lib.Dec.{eqb, eqb→eq}
 use lib.ListN.{length, length-append, length-map, getD, take, replicate, length-replicate, set, length-set}
 use lib.Seq.{sets, set-out, length-take-le, take-suc}
-use Rattle.meaning.specs.Masks.{look, want}
+use Rattle.masks.specs.Masks.{look, want}
 use Rattle.meaning.specs.Lists.{each}
 use Rattle.meaning.specs.Expression.{Letter, Exp, letter, seq, alt, star, pipe, letters, size, rows, renumbered}
 use Rattle.meaning.proofs.Numbering.{renumbered-size, renumbered-rows}

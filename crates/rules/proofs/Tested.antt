@@ -5,15 +5,14 @@ use mathlib.Core.Logic.{⊎-elim}
 use mathlib.Core.List.{List, [], _∷_, _++_, append-assoc}
 use Prim.Native.Nat.{ℕ, _+_, _-_, _*_, _^_, _<_, _≤_}
 use native.Mathlib.Omega.{arith}
-use lib.Dec.{eqb}
-use lib.Bits.{bitAnd, bitOr, bitXor, or-zero-r, and-zero-r}
+use lib.Bits.{bitOr, or-zero-r}
 use lib.ListN.{length}
 use Rattle.meaning.specs.Expression.{Literal, wire, wire-store, store, storeTests}
 use Rattle.meaning.specs.ShapeTests.{agree, AllSized, Sized}
-use Rattle.meaning.specs.Masks.{look, want, compatible, passes}
 use Rattle.meaning.proofs.ListLaws.{cons-∈, no-∈}
 use Rattle.meaning.proofs.Within.{count-append}
-use Rattle.meaning.proofs.Masks.{look-append, want-append, sized-append, agree-append, agree-one}
+use Rattle.masks.specs.Masks.{look, want, compatible}
+use Rattle.masks.proofs.Masks.{compatible-right, look-append, want-append, sized-append, agree-append, agree-one}
 use Rattle.rules.specs.declared.literals.Condition.{Condition}
 use Rattle.words.specs.Words.{part0, part1, part2}
 use Rattle.rules.specs.Cells.{at, Link, link, LinkAt, Links, testsOn}
@@ -194,7 +193,6 @@ abbrev pub retested : Condition → (tests link : ℕ) → Condition
 retested q n i = record { look = q .look; want = q .want; agrees = q .agrees; tests = n; link = i }
 
 masks-same : (q : Condition) (n i : ℕ) (ls ds : List Literal) → MasksAre q ls → look ds ≡ 0 → want ds ≡ 0 → agree ds ≡ true → AllSized ds → MasksAre (retested q n i) (ls ++ ds)
-unfolding passes
 masks-same q n i ls ds m el ew ea sd =
     record {
       looks = m .looks ∙ sym (look-append ls ds (m .sized) sd ∙ ap (bitOr (look ls)) el ∙ or-zero-r _);
@@ -207,7 +205,7 @@ masks-same q n i ls ds m el ew ea sd =
     }
   where
     always : (a : Bool) (x y z : ℕ) → ((a && true) && compatible x y 0 z) ≡ a
-    always true x y z = ap (λ (k : ℕ). eqb (bitAnd (bitXor y z) k) 0) (and-zero-r x) ∙ ap (λ (k : ℕ). eqb k 0) (and-zero-r (bitXor y z))
+    always true x y z = compatible-right x y z
     always false x y z = refl
 
 pub test-added : (P : List ℕ) (c free n i : ℕ) (Q : List ℕ) (q : Condition) (l : Literal) (x : Link) (ls : List Literal) → IsTest l x

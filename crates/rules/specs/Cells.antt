@@ -10,7 +10,7 @@ use Rattle.lexer.specs.Bytes.{Entry, lookup}
 use Rattle.meaning.specs.Expression.{Literal, wire, wire-store, store, Write, from-wire, from-number, Exp, letter, seq, alt, star, pipe, size, storeTests}
 use Rattle.meaning.specs.Shape.{nullable}
 use Rattle.meaning.specs.ShapeTests.{agree, AllSized, SizedLetters}
-use Rattle.meaning.specs.Masks.{look, want}
+use Rattle.masks.specs.Masks.{look, want}
 use Rattle.meaning.specs.Summary.{counted, impossibleAt, hollowAt}
 use Rattle.meaning.specs.Names.{Meaning, anInput, aStore, aDefine, aProduction}
 use Rattle.words.specs.Words.{part0, part1, part2, part3}

@@ -10,7 +10,7 @@ use lib.ListN.{length}
 use Rattle.lexer.specs.Tokens.{tokenAt}
 use Rattle.meaning.specs.Expression.{Literal, wire-store, storeTests}
 use Rattle.meaning.specs.ShapeTests.{agree, AllSized}
-use Rattle.meaning.specs.Masks.{look, want, compatible}
+use Rattle.masks.specs.Masks.{look, want, compatible}
 use Rattle.meaning.specs.Answers.{Answer, refused, byte}
 use Rattle.refusals.specs.Numbers.{oversize, crowded}
 use Rattle.meaning.specs.Reading.{Context, inDefine, inLetter, literalMore, sign, storeEquals, Step, go, is, andThen, literalName, known, unless, noPair, noLiterals, noExp, tooMany, withLiteral}

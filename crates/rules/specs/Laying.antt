@@ -9,7 +9,7 @@ use lib.ListN.{length}
 use lib.Seq.{sets}
 use Rattle.meaning.specs.Lists.{each}
 use Rattle.meaning.specs.Expression.{Letter, Exp, letter, seq, alt, star, pipe, letters, size, rows}
-use Rattle.meaning.specs.Masks.{look, want}
+use Rattle.masks.specs.Masks.{look, want}
 use Rattle.meaning.specs.Table.{Row, Kind, is-letter, is-seq, is-alt, is-star, is-pipe}
 use Rattle.words.specs.Words.{quad}
 use Rattle.rules.specs.Cells.{Link, testsOn, writesOn, LinkAt, Links, Denotes}

@@ -15,6 +15,7 @@ use lexer::BANG;
 use lexer::DOUBLE_EQUALS;
 use lexer::LEFT_BRACKET;
 use lexer::RIGHT_BRACKET;
+use masks::compatible;
 use words::part0;
 use words::part1;
 use words::part2;
@@ -25,7 +26,7 @@ ghost use mathlib.Core.List.{List};
 ghost use Prim.Native.Nat.{ℕ, _+_, _-_, _*_, _^_, _<_, _≤_};
 ghost use lib.ListN.{length};
 ghost use Rattle.meaning.specs.Expression.{Literal};
-ghost use Rattle.meaning.specs.Masks.{compatible};
+ghost use Rattle.masks.specs.Masks.{compatible};
 ghost use Rattle.rules.specs.Cells.{link, StoreAt, DefineAt, Finds};
 ghost use Rattle.rules.specs.Conditions.{TestsAre, Joined, Linked, LinkedBoth, Given, Adds, AllAdded, byStore, byDefine, byTest, byName, Frugal};
 ghost use Rattle.rules.specs.Picks.{bytesOf};
@@ -80,7 +81,7 @@ fn agree_too(q: Condition, look: u64, want: u64, agrees: bool) -> bool
     if !agrees {
         return false;
     }
-    (q.want ^ want) & (q.look & look) == 0
+    compatible(q.look, q.want, look, want)
 }
 
 // A condition, and masks besides.

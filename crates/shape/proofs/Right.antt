@@ -12,13 +12,13 @@ use borrow.Author.Tests.{lt-ltb, le-ltb, eqb-true, eqb-false, eq-eqb, ne-eqb}
 use Rattle.meaning.specs.Lists.{_∈_, any, null, only}
 use Rattle.refusals.specs.Numbers.{openEnd, fork}
 use Rattle.meaning.specs.Expression.{Letter, Exp, letter, seq, alt, star, pipe, letters, size, rows, Ordered}
-use Rattle.meaning.specs.Masks.{look, want, compatible}
+use Rattle.masks.specs.Masks.{look, want, compatible}
 use Rattle.meaning.specs.Shape.{last, follow, threads, SideBySide}
 use Rattle.meaning.specs.ShapeTests.{Shape, accepted, agree, together, SizedLetters, unsatisfiable, openEnds, ambiguous, least, turned-away, firstOf}
 use Rattle.meaning.proofs.ListLaws.{here, append-∈, one-∈, ∈-each, ∈-only, T-and, and-T, any-from, any-to, none-in}
 use Rattle.meaning.proofs.OneWay.{Numbered, last-has}
 use Rattle.meaning.proofs.Numbering.{between, numbered}
-use Rattle.meaning.proofs.Masks.{agree-compatible, compatible-agree}
+use Rattle.masks.proofs.Masks.{agree-compatible, compatible-agree}
 use Rattle.meaning.proofs.Rules.{some-in, in-some, open-end-at, threads-letters, beside-letters, ambiguous-by}
 use Rattle.meaning.proofs.Shaped.{least-in, least-le}
 use Rattle.meaning.proofs.Summary.{rules11and12}

@@ -5,7 +5,7 @@ use Prim.Native.Nat.{ℕ, _+_, _-_, _≤_}
 use native.Mathlib.Omega.{arith}
 use lib.ListN.{getD}
 use Rattle.meaning.specs.Expression.{Letter, Exp, letter, seq, alt, star, pipe, size, rows, Ordered}
-use Rattle.meaning.specs.Masks as masks
+use Rattle.masks.specs.Masks as masks
 use Rattle.shape.specs.Walk.{walkAt}
 use Rattle.shape.specs.Held.{RowsHold}
 use Rattle.shape.proofs.ByKind.{walk-letter, walk-star, walk-two}

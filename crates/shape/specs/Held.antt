@@ -4,7 +4,7 @@ use mathlib.Core.Path.{_≡_}
 use Prim.Native.Nat.{ℕ, _+_}
 use lib.ListN.{getD}
 use Rattle.meaning.specs.Expression.{Exp, letter, seq, alt, star, pipe, size, rows}
-use Rattle.meaning.specs.Masks as masks
+use Rattle.masks.specs.Masks as masks
 
 module _ (kind left right look want : List ℕ) where
   -- row r and the rows below it hold e, whose letters have the indices l, l + 1, ..

@@ -3,7 +3,7 @@ use mathlib.Core.Bool.{Bool}
 use mathlib.Core.Path.{_≡_}
 use Prim.Native.Nat.{ℕ, _+_, _<_}
 use lib.Dec.{eqb}
-use Rattle.meaning.specs.ShapeTests.{bit}
+use Rattle.meaning.specs.Expression.{bit}
 
 unfoldable pub has : (x set : ℕ) → Bool
 has x set = eqb (bit x set) 1

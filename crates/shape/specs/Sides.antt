@@ -4,7 +4,7 @@ use mathlib.Core.List.{List}
 use Prim.Native.Nat.{ℕ}
 use lib.Dec.{eqb}
 use lib.ListN.{getD}
-use Rattle.meaning.specs.Masks.{compatible}
+use Rattle.masks.specs.Masks.{compatible}
 use Rattle.shape.specs.Walk.{byOperator, walkAt}
 use Rattle.shape.specs.Sets.{has}
 use Rattle.shape.specs.declared.sides.SideSets.{SideSets}

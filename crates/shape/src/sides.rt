@@ -9,6 +9,7 @@ use super::sets::one;
 use super::sets::stop_of;
 use super::sets::without;
 use super::table::word_at;
+use masks::compatible;
 use words::part0;
 use words::part1;
 use words::part2;
@@ -16,7 +17,6 @@ ghost use mathlib.Core.Bool.{not, _&&_};
 ghost use mathlib.Core.Path.{_≡_};
 ghost use Prim.Native.Nat.{ℕ, _+_, _-_, _≤_, _<_};
 ghost use lib.Dec.{eqb};
-ghost use Rattle.meaning.specs.Masks.{compatible};
 ghost use Rattle.shape.specs.Walk.{kinds, lefts, rights};
 ghost use Rattle.shape.specs.Sets.{has, Passing};
 ghost use Rattle.shape.specs.Sides.{letterSides, linked, seqSides, altSides, starSides, pipeSides, joinedSides, rivals, sidesOf, sidesAt, forkAt};
@@ -122,13 +122,6 @@ fn joined_sides(kind: usize, e: SideSets, f: SideSets) -> SideSets
         return alt_sides(e, f);
     }
     pipe_sides(e, f)
-}
-
-// Whether one word meets both of two letters, by their masks.
-fn compatible(look1: u64, want1: u64, look2: u64, want2: u64) -> bool
-    ensures { λ r. ⌜ r ≡ compatible look1 want1 look2 want2 ⌝ }
-{
-    ((want1 ^ want2) & (look1 & look2)) == 0
 }
 
 // Where the letters from `first` on that have masks end: at `stop`, if no letter below it has none.

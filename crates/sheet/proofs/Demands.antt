@@ -41,6 +41,8 @@ use Rattle.meaning.proofs.Exactly as exactly
 use Rattle.meaning.proofs.Viable as viable
 use Rattle.meaning.proofs.Rows.{rows-no-more}
 use Rattle.meaning.proofs.Calls.{length-replies, replies-rightly}
+use Rattle.masks.proofs.passes.Statement as passes
+use Rattle.masks.proofs.passes.Met as passes-met
 use Rattle.rules.specs.Laying.{rowWord, codeOf}
 use Rattle.rules.specs.Watches.{watchOf}
 use Rattle.rules.proofs.open.Statement as open-text
@@ -106,6 +108,10 @@ tables-of-entry = tables-of-met.met
 
 pub refused-by-entry : {M : Type 1} → refused-by.statement M
 refused-by-entry = refused-by-met.met
+
+-- the test of a letter's wire literals
+pub passes-entry : {M : Type 1} → passes.statement M
+passes-entry = passes-met.met
 
 -- tokens
 pub token-at-entry : {M : Type 1} → token-at.statement M

@@ -4,92 +4,26 @@ use mathlib.Core.List.{List, [], _∷_, _++_}
 use mathlib.Core.Bool.{Bool, true, false, not, cond, _&&_, _||_}
 use mathlib.Core.Path.{_≡_, refl, sym, ap, ap₂, _∙_, subst}
 use mathlib.Core.Logic.{_⊎_, inl, inr, ⊎-elim}
-use Prim.Native.Nat.{ℕ, zero, suc, _+_, _*_, _-_, _/_, _%_, _^_, _≤_, _<_}
+use Prim.Native.Nat.{ℕ, _+_, _*_, _-_, _/_, _%_, _^_, _≤_, _<_}
 use native.Mathlib.Omega.{arith}
-use native.Mathlib.Nat.{add-comm, mod-lt, pow-suc, mul-assoc, lt-of-le-of-lt, lt-of-lt-of-le, div-eq-of-lt, mod-eq-of-lt, le-dest}
+use native.Mathlib.Nat.{add-comm, mod-lt, lt-of-le-of-lt, lt-of-lt-of-le, mod-eq-of-lt}
 use native.Mathlib.Decide.{decLt}
-use lib.Dec.{T, eqb, leb, ltb, eqb→eq, eqb-refl, leb→le, ltb→lt}
-use lib.Bits.{bitAnd, bitOr, bitXor, and-shr, or-shr, xor-shr, and-mod, or-mod, xor-mod, and-le-r, or-lt, or-comm, or-zero-l, shifted-even}
-use lib.Pow.{pow-pos, pow-mono, pow-add, shr-shr, shl-shr, shl-lt, ones-split, ones-lt, high}
+use lib.Dec.{T, eqb, leb, ltb, eqb-refl, leb→le, ltb→lt}
+use lib.Bits.{bitAnd, bitOr, and-le-r, and-zero-l, and-zero-r, or-lt, or-comm, or-zero-l}
+use lib.Pow.{pow-pos, pow-mono, shl-shr, shl-lt, ones-lt}
 use borrow.Author.Tests.{le-leb, lt-leb, lt-ltb, le-ltb}
 use Rattle.meaning.specs.Lists.{_∈_, any, all}
-use Rattle.meaning.specs.Expression.{Literal, wire, wire-store, store, field}
+use Rattle.meaning.specs.Expression.{Literal, wire, wire-store, store, field, bit}
 use Rattle.meaning.specs.Shape.{wireHolds}
-use Rattle.meaning.specs.ShapeTests.{bit, asks, agree, Sized, AllSized}
+use Rattle.meaning.specs.ShapeTests.{asks, agree, Sized, AllSized}
 use Rattle.meaning.proofs.ListLaws.{here, there, cons-∈, no-∈, append-∈, ∈-left, ∈-right, and-T, T-and, all-at, all-from, any-from, any-to, same-truth, clash}
 use Rattle.meaning.proofs.Bits.{agree-if, all-append, met-if, bit-field, same-bits, asked-bit, digit-is, asks-own, in-below}
-use Rattle.meaning.specs.Masks.{lookOf, wantOf, look, want, passes, compatible}
-
--- ---- operations bit by bit
-
-pub bit-and : (i a b : ℕ) → bit i (bitAnd a b) ≡ bitAnd (bit i a) (bit i b)
-bit-and i a b = ap (λ (x : ℕ). x % 2) (and-shr a b i) ∙ and-mod (a / 2 ^ i) (b / 2 ^ i) 1
-
-pub bit-or : (i a b : ℕ) → bit i (bitOr a b) ≡ bitOr (bit i a) (bit i b)
-bit-or i a b = ap (λ (x : ℕ). x % 2) (or-shr a b i) ∙ or-mod (a / 2 ^ i) (b / 2 ^ i) 1
-
-pub bit-xor : (i a b : ℕ) → bit i (bitXor a b) ≡ bitXor (bit i a) (bit i b)
-bit-xor i a b = ap (λ (x : ℕ). x % 2) (xor-shr a b i) ∙ xor-mod (a / 2 ^ i) (b / 2 ^ i) 1
-
-bit-lt : (i a : ℕ) → bit i a < 2
-bit-lt i a = mod-lt (a / 2 ^ i) (omega arith)
-
--- what was shifted up by lo has nothing below lo, and its own bits above
-pub bit-below : (i lo v : ℕ) → i < lo → bit i (v * 2 ^ lo) ≡ 0
-bit-below i lo v h =
-    let (d, e) = le-dest h in
-    let f : lo ≡ suc d + i = omega (arith, e) in
-    rw (f, pow-add 2 (suc d) i, ← mul-assoc, shl-shr) (shifted-even v d)
-
-pub bit-above : (i lo v : ℕ) → bit (lo + i) (v * 2 ^ lo) ≡ bit i v
-bit-above i lo v = ap (λ (x : ℕ). x % 2) (sym (shr-shr (v * 2 ^ lo) lo i) ∙ ap (λ (x : ℕ). x / 2 ^ i) (shl-shr v lo))
-
--- a number below 2 ^ w has no bits from w on, and of 2 ^ w - 1 all bits below w stand
-pub bit-over : (i w v : ℕ) → v < 2 ^ w → w ≤ i → bit i v ≡ 0
-bit-over i w v h k = ap (λ (x : ℕ). x % 2) (div-eq-of-lt (lt-of-lt-of-le h (pow-mono k)))
-
-odd-ones : (d : ℕ) → (2 ^ suc d - 1) % 2 ≡ 1
-odd-ones d = rw (pow-suc 2 d) (omega (arith, pow-pos d))
-
-pub bit-ones : (j w : ℕ) → j < w → bit j (2 ^ w - 1) ≡ 1
-bit-ones j w h =
-    let (d, e) = le-dest h in
-    let f : w ≡ suc d + j = omega (arith, e) in
-    rw (f, ones-split (suc d) j, high (2 ^ suc d - 1) j (ones-lt j)) (odd-ones d)
-
-pub zero-bit : (i : ℕ) → bit i 0 ≡ 0
-zero-bit i = bit-over i 0 0 (omega arith) (omega arith)
+use Rattle.masks.specs.Wires.{passes}
+use Rattle.masks.specs.Masks.{lookOf, wantOf, look, want, compatible}
+use Rattle.masks.proofs.BitLaws.{bit-and, bit-or, bit-lt, bit-below, bit-above, bit-over, bit-ones, zero-bit, Bit, off, on, bit-is}
+use Rattle.masks.proofs.ByWires.{passes-then, passes-if, unasked}
 
 -- ---- single bits
-
-pub data Bit : ℕ → Type 0 where
-  off : Bit 0
-  on : Bit 1
-
-is-bit : (x : ℕ) → x < 2 → Bit x
-is-bit zero h = off
-is-bit (suc zero) h = on
-is-bit (suc (suc x)) h = absurd (omega arith)
-
-pub bit-is : (i a : ℕ) → Bit (bit i a)
-bit-is i a = is-bit (bit i a) (bit-lt i a)
-
--- x and y are alike, or nobody looks
-alike-if : {x y a : ℕ} → Bit x → Bit y → Bit a → (a ≡ 1 → x ≡ y) → bitAnd (bitXor x y) a ≡ 0
-alike-if off off off h = refl
-alike-if off off on h = refl
-alike-if off on off h = refl
-alike-if off on on h = clash (h refl)
-alike-if on off off h = refl
-alike-if on off on h = clash (sym (h refl))
-alike-if on on off h = refl
-alike-if on on on h = refl
-
-alike-then : {x y : ℕ} → Bit x → Bit y → bitAnd (bitXor x y) 1 ≡ 0 → x ≡ y
-alike-then off off e = refl
-alike-then off on e = clash (sym e)
-alike-then on off e = clash (sym e)
-alike-then on on e = refl
 
 or-left : {x y : ℕ} → Bit y → x ≡ 1 → bitOr x y ≡ 1
 or-left off e = rw e
@@ -104,24 +38,13 @@ or-cases off off e = clash e
 or-cases off on e = inr refl
 or-cases on b e = inl refl
 
--- ---- a word passes where each wire looked at has the value wanted
+-- ---- masks that look at no wire are compatible with all others
 
-module _ (a b w : ℕ) (small : a < 2 ^ 64) where
-  pub passes-then : T (passes a b w) → (i : ℕ) → bit i a ≡ 1 → bit i w ≡ bit i b
-  unfolding passes
-  passes-then t i h =
-      let e : bitAnd (bitXor w b) a ≡ 0 = eqb→eq (bitAnd (bitXor w b) a) 0 t in
-      alike-then (bit-is i w) (bit-is i b)
-      (sym (ap₂ bitAnd (bit-xor i w b) h) ∙ sym (bit-and i (bitXor w b) a) ∙ ap (bit i) e ∙ zero-bit i)
+pub compatible-left : (b c d : ℕ) → compatible 0 b c d ≡ true
+compatible-left b c d = ap (λ (n : ℕ). passes n d b) (and-zero-l c) ∙ unasked d b
 
-  pub passes-if : ((i : ℕ) → i < 64 → bit i a ≡ 1 → bit i w ≡ bit i b) → T (passes a b w)
-  unfolding passes
-  passes-if h =
-      let same : bitAnd (bitXor w b) a ≡ 0
-      = same-bits 64 (bitAnd (bitXor w b) a) 0 (lt-of-le-of-lt (and-le-r (bitXor w b) a) small) (pow-pos 64)
-      (λ i l. bit-and i (bitXor w b) a ∙ ap (λ (x : ℕ). bitAnd x (bit i a)) (bit-xor i w b)
-      ∙ alike-if (bit-is i w) (bit-is i b) (bit-is i a) (h i l) ∙ sym (zero-bit i)) in
-      subst (λ (x : ℕ). T (eqb x 0)) (sym same) (eqb-refl 0)
+pub compatible-right : (a b d : ℕ) → compatible a b 0 d ≡ true
+compatible-right a b d = ap (λ (n : ℕ). passes n d b) (and-zero-r a) ∙ unasked d b
 
 -- ---- the masks of literals, bit by bit
 

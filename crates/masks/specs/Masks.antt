@@ -3,9 +3,9 @@
 use mathlib.Core.Bool.{Bool}
 use mathlib.Core.List.{List, [], _∷_}
 use Prim.Native.Nat.{ℕ, _*_, _-_, _^_}
-use lib.Dec.{eqb}
-use lib.Bits.{bitAnd, bitOr, bitXor}
+use lib.Bits.{bitAnd, bitOr}
 use Rattle.meaning.specs.Expression.{Literal, wire, wire-store, store}
+use Rattle.masks.specs.Wires.{passes}
 
 -- the wires that one literal looks at, and their values
 abbrev pub lookOf : Literal → ℕ
@@ -26,10 +26,6 @@ look (l ∷ ls) = bitOr (lookOf l) (look ls)
 unfoldable pub want : List Literal → ℕ
 want [] = 0
 want (l ∷ ls) = bitOr (wantOf l) (want ls)
-
--- each wire looked at has the value wanted
-unfoldable pub passes : (look want word : ℕ) → Bool
-passes a b w = eqb (bitAnd (bitXor w b) a) 0
 
 -- two letters want the same of the wires that both look at
 abbrev pub compatible : (look₁ want₁ look₂ want₂ : ℕ) → Bool
