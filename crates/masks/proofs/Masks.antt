@@ -6,10 +6,10 @@ use mathlib.Core.Path.{_≡_, refl, sym, ap, ap₂, _∙_, subst}
 use mathlib.Core.Logic.{_⊎_, inl, inr, ⊎-elim}
 use Prim.Native.Nat.{ℕ, _+_, _*_, _-_, _/_, _%_, _^_, _≤_, _<_}
 use native.Mathlib.Omega.{arith}
-use native.Mathlib.Nat.{add-comm, mod-lt, lt-of-le-of-lt, lt-of-lt-of-le, mod-eq-of-lt}
+use native.Mathlib.Nat.{add-comm, mod-lt, lt-of-lt-of-le, mod-eq-of-lt}
 use native.Mathlib.Decide.{decLt}
 use lib.Dec.{T, eqb, leb, ltb, eqb-refl, leb→le, ltb→lt}
-use lib.Bits.{bitAnd, bitOr, and-le-r, and-zero-l, and-zero-r, or-lt, or-comm, or-zero-l}
+use lib.Bits.{bitAnd, bitOr, and-zero-l, and-zero-r, or-lt, or-comm, or-zero-l}
 use lib.Pow.{pow-pos, pow-mono, shl-shr, shl-lt, ones-lt}
 use borrow.Author.Tests.{le-leb, lt-leb, lt-ltb, le-ltb}
 use Rattle.meaning.specs.Lists.{_∈_, any, all}
@@ -114,16 +114,6 @@ look-at i (x ∷ ls) l j h =
     ∙ ⊎-elim (λ e. or-left (bit-is i (look ls)) (ap (λ y. bit i (lookOf y)) (sym e) ∙ h))
     (λ k. or-right (bit-is i (lookOf x)) (look-at i ls l k h)) (cons-∈ j)
 
-look-of-small : (l : Literal) → Sized l → lookOf l < 2 ^ 64
-look-of-small (wire lo width v) (p, q) = lt-of-lt-of-le (shl-lt width lo (ones-lt width)) (pow-mono (subst (λ (k : ℕ). k ≤ 64) (add-comm lo width) q))
-look-of-small (wire-store lo width s) z = pow-pos 64
-look-of-small (store s v) z = pow-pos 64
-
-pub look-small : (ls : List Literal) → AllSized ls → look ls < 2 ^ 64
-unfolding look
-look-small [] sized = pow-pos 64
-look-small (l ∷ ls) sized = or-lt 64 (lookOf l) (look ls) (look-of-small l (sized l (here refl))) (look-small ls (λ x j. sized x (there j)))
-
 -- ---- literals that agree
 
 module _ (ls : List Literal) (sized : AllSized ls) (agreed : T (agree ls)) where
@@ -137,7 +127,7 @@ module _ (ls : List Literal) (sized : AllSized ls) (agreed : T (agree ls)) where
   -- A word that meets them all passes their masks.
   pub meets-passes : (w : ℕ) → T (all (wireHolds w) ls) → T (passes (look ls) (want ls) w)
   meets-passes w h =
-      passes-if (look ls) (want ls) w (look-small ls sized) (λ i l e.
+      passes-if (look ls) (want ls) w (λ i l e.
       let (b, d, x, j, t) = look-some i ls e in
       asked-bit w i b x (all-at (wireHolds w) j h) t ∙ sym (asked-wanted i b x l d j t))
 
@@ -150,7 +140,7 @@ module _ (ls : List Literal) (sized : AllSized ls) (agreed : T (agree ls)) where
           subst (λ (z : ℕ). T (eqb (field lo width w) z))
           (same-bits width (field lo width w) v (mod-lt (w / 2 ^ lo) (pow-pos width)) p (λ k l.
           bit-field lo width w k l
-          ∙ passes-then (look ls) (want ls) w (look-small ls sized) h (lo + k) (look-at (lo + k) ls (wire lo width v) j (looks-own lo width v k l))
+          ∙ passes-then (look ls) (want ls) w h (lo + k) (omega arith) (look-at (lo + k) ls (wire lo width v) j (looks-own lo width v k l))
           ∙ asked-wanted (lo + k) (bit k v) (wire lo width v) (omega arith) (bit-lt k v) j (asks-own lo width v k l)))
           (eqb-refl (field lo width w))
       one (wire-store lo width s) j z = tt
@@ -194,10 +184,6 @@ module _ (xs ys : List Literal) (sx : AllSized xs) (sy : AllSized ys) (ax : T (a
   common : ℕ
   common = bitAnd (look xs) (look ys)
 
-  common-small : common < 2 ^ 64
-  unfolding common
-  common-small = lt-of-le-of-lt (and-le-r (look xs) (look ys)) (look-small ys sy)
-
   -- Literals that one word meets together have compatible masks.
   pub agree-compatible : T (agree (xs ++ ys)) → T (compatible (look xs) (want xs) (look ys) (want ys))
   unfolding common
@@ -205,32 +191,32 @@ module _ (xs ys : List Literal) (sx : AllSized xs) (sy : AllSized ys) (ax : T (a
       let (w, b, h) = met-if (xs ++ ys) (λ l i. ⊎-elim (sx l) (sy l) (append-∈ xs i)) t in
       let px = meets-passes xs sx ax w (all-from (wireHolds w) xs (λ l i. all-at (wireHolds w) (∈-left ys i) h)) in
       let py = meets-passes ys sy ay w (all-from (wireHolds w) ys (λ l i. all-at (wireHolds w) (∈-right xs i) h)) in
-      passes-if common (want ys) (want xs) common-small (λ i l e.
+      passes-if common (want ys) (want xs) (λ i l e.
       let (p, q) = and-on (bit-is i (look xs)) (bit-is i (look ys)) (sym (bit-and i (look xs) (look ys)) ∙ e) in
-      sym (passes-then (look xs) (want xs) w (look-small xs sx) px i p) ∙ passes-then (look ys) (want ys) w (look-small ys sy) py i q)
+      sym (passes-then (look xs) (want xs) w px i l p) ∙ passes-then (look ys) (want ys) w py i l q)
 
   -- And those with compatible masks are met together: by the word that has all that is wanted.
   both : ℕ
   both = bitOr (want xs) (want ys)
 
-  same-wanted : T (compatible (look xs) (want xs) (look ys) (want ys)) → (i : ℕ) → bit i (look xs) ≡ 1 → bit i (look ys) ≡ 1 → bit i (want xs) ≡ bit i (want ys)
+  same-wanted : T (compatible (look xs) (want xs) (look ys) (want ys)) → (i : ℕ) → i < 64 → bit i (look xs) ≡ 1 → bit i (look ys) ≡ 1 → bit i (want xs) ≡ bit i (want ys)
   unfolding common
-  same-wanted t i p q =
-      passes-then common (want ys) (want xs) common-small t i (bit-and i (look xs) (look ys) ∙ ap₂ bitAnd p q)
+  same-wanted t i l p q =
+      passes-then common (want ys) (want xs) t i l (bit-and i (look xs) (look ys) ∙ ap₂ bitAnd p q)
 
   passes-left : T (compatible (look xs) (want xs) (look ys) (want ys)) → T (passes (look xs) (want xs) both)
   unfolding both
   passes-left t =
-      passes-if (look xs) (want xs) both (look-small xs sx) (λ i l e.
+      passes-if (look xs) (want xs) both (λ i l e.
       bit-or i (want xs) (want ys)
-      ∙ own-value (bit-is i (want xs)) (bit-is i (want ys)) (λ f. same-wanted t i e (want-looks i ys sy f)))
+      ∙ own-value (bit-is i (want xs)) (bit-is i (want ys)) (λ f. same-wanted t i l e (want-looks i ys sy f)))
 
   passes-right : T (compatible (look xs) (want xs) (look ys) (want ys)) → T (passes (look ys) (want ys) both)
   unfolding both
   passes-right t =
-      passes-if (look ys) (want ys) both (look-small ys sy) (λ i l e.
+      passes-if (look ys) (want ys) both (λ i l e.
       bit-or i (want xs) (want ys) ∙ or-comm (bit i (want xs)) (bit i (want ys))
-      ∙ own-value (bit-is i (want ys)) (bit-is i (want xs)) (λ f. sym (same-wanted t i (want-looks i xs sx f) e)))
+      ∙ own-value (bit-is i (want ys)) (bit-is i (want xs)) (λ f. sym (same-wanted t i l (want-looks i xs sx f) e)))
 
   pub compatible-agree : T (compatible (look xs) (want xs) (look ys) (want ys)) → T (agree (xs ++ ys))
   compatible-agree t =
@@ -256,8 +242,16 @@ or-assoc a b c p q r =
     ∙ or-three (bit-is i a) (bit-is i b) (bit-is i c)
     ∙ ap (λ (x : ℕ). bitOr (bit i a) x) (sym (bit-or i b c)) ∙ sym (bit-or i a (bitOr b c)))
 
+shifted-small : (lo width v : ℕ) → v < 2 ^ width → lo + width ≤ 64 → v * 2 ^ lo < 2 ^ 64
+shifted-small lo width v p q = lt-of-lt-of-le (shl-lt width lo p) (pow-mono (subst (λ (k : ℕ). k ≤ 64) (add-comm lo width) q))
+
+look-of-small : (l : Literal) → Sized l → lookOf l < 2 ^ 64
+look-of-small (wire lo width v) (p, q) = shifted-small lo width (2 ^ width - 1) (ones-lt width) q
+look-of-small (wire-store lo width s) z = pow-pos 64
+look-of-small (store s v) z = pow-pos 64
+
 want-of-small : (l : Literal) → Sized l → wantOf l < 2 ^ 64
-want-of-small (wire lo width v) (p, q) = lt-of-lt-of-le (shl-lt width lo p) (pow-mono (subst (λ (k : ℕ). k ≤ 64) (add-comm lo width) q))
+want-of-small (wire lo width v) (p, q) = shifted-small lo width v p q
 want-of-small (wire-store lo width s) z = pow-pos 64
 want-of-small (store s v) z = pow-pos 64
 
@@ -283,10 +277,6 @@ look-append = mask-append lookOf look-of-small look refl (λ l ls. refl)
 pub want-append : (xs ys : List Literal) → AllSized xs → AllSized ys → want (xs ++ ys) ≡ bitOr (want xs) (want ys)
 unfolding want
 want-append = mask-append wantOf want-of-small want refl (λ l ls. refl)
-
-pub want-small : (ls : List Literal) → AllSized ls → want ls < 2 ^ 64
-unfolding want
-want-small = mask-small wantOf want-of-small want refl (λ l ls. refl)
 
 pub sized-append : (xs ys : List Literal) → AllSized xs → AllSized ys → AllSized (xs ++ ys)
 sized-append xs ys sx sy l i = ⊎-elim (sx l) (sy l) (append-∈ xs i)

@@ -4,8 +4,10 @@ ghost use mathlib.Core.Path.{_≡_};
 ghost use Rattle.masks.specs.Masks.{compatible};
 ghost use Rattle.masks.specs.Wires.{passes};
 
-// Whether each wire looked at has the value wanted.
-pub fn passes(look: u64, want: u64, word: u64) -> bool
+// Whether each wire looked at has the value wanted, for any three words. The exclusive or has a 1 at each wire that is not as wanted, and none of these may be looked at: no
+// branch is needed. It is marked for C so that client/wires can look at what it is compiled to.
+#[no_mangle]
+pub extern "C" fn passes(look: u64, want: u64, word: u64) -> bool
     ensures { λ r. ⌜ r ≡ passes look want word ⌝ }
 {
     (word ^ want) & look == 0

@@ -1,12 +1,7 @@
 -- `masks::passes` meets its contract. Assumes nothing.
-use mathlib.Core.Path.{refl}
-use Rattle.masks.specs.Wires.{passes}
+use Rattle.masks.proofs.ByWires.{by-arithmetic}
 use Rattle.masks.proofs.passes.Statement.{statement}
 use Rattle.masks.proofs.passes.Tie as tie
 
-returns : tie.Need-returns
-unfolding passes
-returns c = refl
-
 pub passes-spec : {M : Type 1} → statement M
-passes-spec = tie.close (tie.spec returns)
+passes-spec = tie.close (tie.spec (λ c. by-arithmetic (c .args .look) (c .args .want) (c .args .word) (c .fits .look .fits)))
