@@ -9,7 +9,7 @@ use native.Mathlib.Omega.{arith}
 use native.Mathlib.Nat.{add-comm, mod-lt, lt-of-lt-of-le, mod-eq-of-lt}
 use native.Mathlib.Decide.{decLt}
 use lib.Dec.{T, eqb, leb, ltb, eqb-refl, leb→le, ltb→lt}
-use lib.Bits.{bitAnd, bitOr, and-zero-l, and-zero-r, or-lt, or-comm, or-zero-l}
+use lib.Bits.{bitAnd, bitOr, or-lt, or-comm, or-zero-l}
 use lib.Pow.{pow-pos, pow-mono, shl-shr, shl-lt, ones-lt}
 use borrow.Author.Tests.{le-leb, lt-leb, lt-ltb, le-ltb}
 use Rattle.meaning.specs.Lists.{_∈_, any, all}
@@ -38,13 +38,9 @@ or-cases off off e = clash e
 or-cases off on e = inr refl
 or-cases on b e = inl refl
 
--- ---- masks that look at no wire are compatible with all others
-
-pub compatible-left : (b c d : ℕ) → compatible 0 b c d ≡ true
-compatible-left b c d = ap (λ (n : ℕ). passes n d b) (and-zero-l c) ∙ unasked d b
-
-pub compatible-right : (a b d : ℕ) → compatible a b 0 d ≡ true
-compatible-right a b d = ap (λ (n : ℕ). passes n d b) (and-zero-r a) ∙ unasked d b
+-- Masks that look at no wire in common are compatible.
+pub compatible-apart : (a b c d : ℕ) → bitAnd a c ≡ 0 → compatible a b c d ≡ true
+compatible-apart a b c d e = ap (λ (n : ℕ). passes n d b) e ∙ unasked d b
 
 -- ---- the masks of literals, bit by bit
 

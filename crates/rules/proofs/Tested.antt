@@ -5,14 +5,14 @@ use mathlib.Core.Logic.{⊎-elim}
 use mathlib.Core.List.{List, [], _∷_, _++_, append-assoc}
 use Prim.Native.Nat.{ℕ, _+_, _-_, _*_, _^_, _<_, _≤_}
 use native.Mathlib.Omega.{arith}
-use lib.Bits.{bitOr, or-zero-r}
+use lib.Bits.{bitOr, or-zero-r, and-zero-r}
 use lib.ListN.{length}
 use Rattle.meaning.specs.Expression.{Literal, wire, wire-store, store, storeTests}
 use Rattle.meaning.specs.ShapeTests.{agree, AllSized, Sized}
 use Rattle.meaning.proofs.ListLaws.{cons-∈, no-∈}
 use Rattle.meaning.proofs.Within.{count-append}
 use Rattle.masks.specs.Masks.{look, want, compatible}
-use Rattle.masks.proofs.Masks.{compatible-right, look-append, want-append, sized-append, agree-append, agree-one}
+use Rattle.masks.proofs.Masks.{compatible-apart, look-append, want-append, sized-append, agree-append, agree-one}
 use Rattle.rules.specs.declared.literals.Condition.{Condition}
 use Rattle.words.specs.Words.{part0, part1, part2}
 use Rattle.rules.specs.Cells.{at, Link, link, LinkAt, Links, testsOn}
@@ -205,7 +205,7 @@ masks-same q n i ls ds m el ew ea sd =
     }
   where
     always : (a : Bool) (x y z : ℕ) → ((a && true) && compatible x y 0 z) ≡ a
-    always true x y z = compatible-right x y z
+    always true x y z = compatible-apart x y 0 z (and-zero-r x)
     always false x y z = refl
 
 pub test-added : (P : List ℕ) (c free n i : ℕ) (Q : List ℕ) (q : Condition) (l : Literal) (x : Link) (ls : List Literal) → IsTest l x

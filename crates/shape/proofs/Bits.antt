@@ -8,13 +8,13 @@ use native.Mathlib.Nat.{le-dest, div-one}
 use native.Mathlib.Decide.{decLt}
 use lib.Dec.{eqb}
 use lib.ListN.{length, getD, List·getD-eq-default}
-use lib.Bits.{bitAnd, bitOr, bitXor}
+use lib.Bits.{bitAnd, bitOr, bitXor, and-zero-l}
 use lib.Pow.{shl-exact, field, mod-mod-pow, shr-shr}
 use borrow.Author.Tests.{eqb-true, eqb-false, eq-eqb, ne-eqb}
 use Rattle.meaning.specs.Expression.{bit}
 use Rattle.masks.specs.Masks.{compatible}
 use Rattle.masks.proofs.BitLaws.{Bit, off, on, bit-is, bit-and, bit-or, bit-xor, bit-below, bit-above, bit-over, bit-ones, zero-bit}
-use Rattle.masks.proofs.Masks.{compatible-left}
+use Rattle.masks.proofs.Masks.{compatible-apart}
 use Rattle.shape.specs.Sets.{has, Passing}
 use Rattle.shape.specs.Sides.{rivals}
 
@@ -156,7 +156,7 @@ met look want i j p q r s = rw (p, q, r, s)
 
 -- each word meets a letter that has no masks
 pub unmasked : (look want : List ℕ) (i j : ℕ) → length look ≤ i → rivals look want i j ≡ true
-unmasked look want i j h = rw (List·getD-eq-default look 0 {n = i} h) (compatible-left (getD want i 0) (getD look j 0) (getD want j 0))
+unmasked look want i j h = rw (List·getD-eq-default look 0 {n = i} h) (compatible-apart 0 (getD want i 0) (getD look j 0) (getD want j 0) (and-zero-l (getD look j 0)))
 
 -- ---- letter by letter from the lowest on: what is left of a set
 
