@@ -10,12 +10,7 @@
 #include <stdlib.h>
 #include <string.h>
 
-#include "linewatch.h"
-
-struct bytes {
-    uint8_t *at;
-    size_t length;
-};
+#include "sheet_of.h"
 
 static struct bytes read_file(const char *name)
 {
@@ -40,17 +35,6 @@ static struct bytes read_file(const char *name)
     return b;
 }
 
-/* The sheet in memory of its own, with as much room as it can need: a line has less than 64 bytes, and a record at least one. */
-static struct bytes sheet_of(struct bytes text, struct bytes records)
-{
-    size_t room = 64 * (records.length < 1000001 ? records.length + 4 : 1000005);
-    struct bytes sheet = {malloc(room), 0};
-    if (!sheet.at)
-        exit(2);
-    sheet.length = linewatch_sheet(text.at, text.length, records.at, records.length, sheet.at, room);
-    return sheet;
-}
-
 static int same(struct bytes a, struct bytes b)
 {
     return a.length == b.length && memcmp(a.at, b.at, a.length) == 0;
@@ -68,8 +52,7 @@ static struct bytes part(struct bytes file, size_t *at)
 {
     if (file.length - *at < 4)
         exit(2);
-    const uint8_t *p = file.at + *at;
-    size_t length = p[0] | (size_t)p[1] << 8 | (size_t)p[2] << 16 | (size_t)p[3] << 24;
+    size_t length = number_at(file.at + *at);
     *at += 4;
     if (file.length - *at < length)
         exit(2);

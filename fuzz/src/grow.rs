@@ -1,9 +1,11 @@
-//! Cases grown from the grammar: declarations, productions and monitors at random, most of them such that the shape rules are kept, or a text around a
-//! limit; then, for some, a token put in another's place or bytes damaged; and a trace that follows the rules for a while and then leaves them, or whose
-//! last record is torn, has an idle byte or a bit above the wires.
+//! Cases grown from the grammar: declarations, productions and monitors at random, most of them such that the shape rules are kept, half of them with
+//! `past`; or a text around a limit or around `past`; then, for some, a token put in another's place or bytes damaged; and a trace that follows the rules
+//! for a while and then leaves them, or whose last record is torn, has an idle byte or a bit above the wires. Where a text has `past`, many words are the
+//! one before on the fields that it holds, and many are that but for a bit.
 
 use crate::compare::record;
 use crate::limits;
+use crate::past;
 use crate::random::Random;
 use crate::Case;
 use second::{Answer, Watch};
@@ -19,6 +21,10 @@ struct Grown {
     stores: Vec<(String, u32)>,
     defines: Vec<String>,
     productions: Vec<String>,
+    /// One literal in so many is `wire == past(wire)`; with 0 none is.
+    past: usize,
+    /// Defines of nothing but such literals.
+    holding: Vec<String>,
 }
 
 fn width(random: &mut Random) -> u32 {
@@ -47,7 +53,24 @@ impl Grown {
         fitting[random.below(fitting.len())]
     }
 
+    /// `wire == past(wire)`, seldom with another wire inside; or a define of such, or several.
+    fn held(&self, random: &mut Random) -> String {
+        if !self.holding.is_empty() && random.once_in(3) {
+            return random.pick(&self.holding).clone();
+        }
+        let name = &random.pick(&self.inputs).name;
+        let inner = if random.once_in(80) { &random.pick(&self.inputs).name } else { name };
+        let literal = format!("{name} == past({inner})");
+        if random.once_in(3) {
+            return format!("{literal} & {}", self.held(random));
+        }
+        literal
+    }
+
     fn literal(&self, random: &mut Random) -> String {
+        if self.past > 0 && random.once_in(self.past) {
+            return self.held(random);
+        }
         let input = random.pick(&self.inputs);
         if !self.stores.is_empty() && random.once_in(6) {
             let (store, width) = random.pick(&self.stores);
@@ -102,7 +125,9 @@ impl Grown {
         } else {
             format!("{} == {value}", input.name)
         };
-        if random.once_in(4) {
+        if self.past > 0 && random.once_in(3) {
+            format!("{test} & {}", self.held(random))
+        } else if random.once_in(4) {
             format!("{test} & {}", self.letter(random))
         } else {
             test
@@ -142,7 +167,16 @@ impl Grown {
 }
 
 fn text(random: &mut Random) -> String {
-    let mut g = Grown { text: String::new(), inputs: Vec::new(), stores: Vec::new(), defines: Vec::new(), productions: Vec::new() };
+    let past = *random.pick(&[0, 0, 0, 6, 3, 2]);
+    let mut g = Grown {
+        text: String::new(),
+        inputs: Vec::new(),
+        stores: Vec::new(),
+        defines: Vec::new(),
+        productions: Vec::new(),
+        past,
+        holding: Vec::new(),
+    };
     let limit = random.once_in(60);
     for i in 0..1 + random.below(if limit { 70 } else { 4 }) {
         let w = width(random);
@@ -163,6 +197,11 @@ fn text(random: &mut Random) -> String {
         }
         g.text += &format!("define d{i} = {body};\n");
         g.defines.push(format!("d{i}"));
+    }
+    if past > 0 && random.once_in(2) {
+        let body = g.held(random);
+        g.text += &format!("define held = {body};\n");
+        g.holding.push(String::from("held"));
     }
     for i in 0..1 + random.below(if limit { 130 } else { 4 }) {
         let depth = random.below(4);
@@ -186,24 +225,13 @@ fn text(random: &mut Random) -> String {
 }
 
 const TOKENS: &[&str] = &[
-    ";", ",", "@", "*", "&", "!", "(", ")", "[", "]", "{", "}", ":", "=", "==", "||", "->", "<-", "input", "internal", "define", "monitor", "w0", "w1", "s0", "d0", "p0", "x", "0", "1",
-    "7", "18446744073709551615", "18446744073709551616", "a_name_of_sixteen", "|", "#",
+    ";", ",", "@", "*", "&", "!", "(", ")", "[", "]", "{", "}", ":", "=", "==", "||", "->", "<-", "input", "internal", "define", "monitor", "past", "past(w0)", "w0", "w1", "s0", "d0", "p0",
+    "x", "0", "1", "7", "18446744073709551615", "18446744073709551616", "a_name_of_sixteen", "|", "#",
 ];
 
 /// Another token in the place of one, a token more, or one less.
 fn tokens_changed(random: &mut Random, text: &str) -> String {
-    let mut parts: Vec<String> = Vec::new();
-    let mut rest = text;
-    while !rest.is_empty() {
-        let first = rest.chars().next().expect("it is not empty");
-        let end = if first.is_ascii_alphanumeric() || first == '_' {
-            rest.find(|c: char| !c.is_ascii_alphanumeric() && c != '_').unwrap_or(rest.len())
-        } else {
-            1
-        };
-        parts.push(rest[..end].to_string());
-        rest = &rest[end..];
-    }
+    let mut parts: Vec<String> = past::parts(text).into_iter().map(String::from).collect();
     for _ in 0..1 + random.below(2) {
         let at = random.below(parts.len());
         match random.below(3) {
@@ -237,30 +265,74 @@ fn damaged(random: &mut Random, mut bytes: Vec<u8>) -> Vec<u8> {
     bytes
 }
 
-/// Words that keep the rules as long as one is found quickly, and a few more at random.
+/// One of the bits of a word that is not 0.
+fn bit_of(random: &mut Random, word: u64) -> u64 {
+    let bits: Vec<u64> = (0..64).map(|i| 1 << i).filter(|bit| word & bit != 0).collect();
+    *random.pick(&bits)
+}
+
+/// A word to try behind another. `fields` are those that `past` holds in the text; where there are some, they are mostly as before, or but for one bit.
+fn next_word(random: &mut Random, mask: u64, fields: &[u64], before: u64) -> u64 {
+    let any = random.word() & mask & if random.once_in(3) { random.word() } else { u64::MAX };
+    if fields.is_empty() {
+        return any;
+    }
+    match random.below(8) {
+        0 => before,
+        1 => before ^ bit_of(random, mask),
+        2 => before ^ bit_of(random, fields.iter().fold(0, |all, field| all | field)),
+        3..=6 => {
+            let still = fields.iter().filter(|_| !random.once_in(5)).fold(0, |all, field| all | field);
+            before & still | any & !still
+        }
+        _ => any,
+    }
+}
+
+/// A bad word that is a bit of a held field away from one that is ok, if there is one and it is found quickly.
+fn moving_word(random: &mut Random, watch: &Watch, mask: u64, fields: &[u64], before: u64) -> Option<u64> {
+    for _ in 0..40 {
+        let word = next_word(random, mask, fields, before);
+        let field = *random.pick(fields);
+        let moved = word ^ bit_of(random, field);
+        let answers = (watch.clone().tick(word), watch.clone().tick(moved));
+        if matches!(answers, (Answer::Ok, Answer::Bad(_))) {
+            return Some(moved);
+        }
+    }
+    None
+}
+
+/// Words that keep the rules as long as one is found quickly, and a few more that need not.
 fn words(random: &mut Random, text: &[u8]) -> Vec<u64> {
     let mut words = Vec::new();
     let Ok(program) = second::open(text) else {
         return vec![random.word(); random.below(3)];
     };
     let mask = if program.wires() == 64 { u64::MAX } else { (1 << program.wires()) - 1 };
+    let fields = past::fields(text);
     let mut watch = Watch::new(&program);
+    let mut before = 0;
     let long = random.below(60);
     'ticks: while words.len() < long {
         for _ in 0..40 {
-            let word = random.word() & mask & if random.once_in(3) { random.word() } else { u64::MAX };
+            let word = next_word(random, mask, &fields, before);
             let mut next = watch.clone();
             if next.tick(word) == Answer::Ok {
                 watch = next;
+                before = word;
                 words.push(word);
                 continue 'ticks;
             }
         }
         break;
     }
-    if random.once_in(2) {
+    if !fields.is_empty() && random.once_in(2) {
+        words.extend(moving_word(random, &watch, mask, &fields, before));
+    } else if random.once_in(2) {
         for _ in 0..random.below(4) {
-            words.push(random.word() & if random.once_in(6) { u64::MAX } else { mask });
+            before = if random.once_in(6) { random.word() } else { next_word(random, mask, &fields, before) };
+            words.push(before);
         }
     }
     if program.wires() < 64 && random.once_in(8) {
@@ -306,7 +378,12 @@ fn trace(random: &mut Random, words: &[u64]) -> Vec<u8> {
 }
 
 pub fn case(random: &mut Random) -> Case {
-    let mut text = if random.once_in(10) { limits::text(random) } else { text(random) }.into_bytes();
+    let mut text = match random.below(20) {
+        0 | 1 => limits::text(random),
+        2 | 3 => past::formed(random).text,
+        _ => text(random),
+    }
+    .into_bytes();
     if random.once_in(4) {
         text = tokens_changed(random, &String::from_utf8(text).expect("a grown text is ASCII")).into_bytes();
     }
@@ -345,6 +422,17 @@ mod tests {
         let grown: BTreeSet<String> = (0..20_000).map(|seed| kind(&case(&mut Random::new(seed)))).collect();
         let all: BTreeSet<String> = (1..=15).map(|number| format!("refused {number:>2}")).chain([String::from("clean"), String::from("bad")]).collect();
         assert_eq!(grown, all);
+    }
+
+    /// A tenth of the cases are accepted texts with `past`; many of them have a bad tick, and many of these are bad for a field that moved.
+    #[test]
+    fn fields_held_by_past_are_kept_and_moved() {
+        let cases = (0..20_000).map(|seed| case(&mut Random::new(seed)));
+        let held: Vec<Case> = cases.filter(|case| second::open(&case.text).is_ok() && !past::fields(&case.text).is_empty()).collect();
+        let bad: Vec<&Case> = held.iter().filter(|case| kind(case) == "bad").collect();
+        let moved = bad.iter().filter(|case| past::moved(case)).count();
+        let counts = (held.len(), bad.len(), moved);
+        assert!(counts.0 > 2000 && counts.1 > 700 && counts.2 > 500, "{counts:?}");
     }
 
     #[test]

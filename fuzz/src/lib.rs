@@ -4,6 +4,7 @@
 pub mod compare;
 pub mod grow;
 pub mod limits;
+pub mod past;
 pub mod random;
 pub mod save;
 pub mod shrink;

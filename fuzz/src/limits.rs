@@ -55,7 +55,7 @@ fn bytes(random: &mut Random, count: u128) -> String {
 }
 
 fn name(random: &mut Random, count: u128) -> String {
-    let mut name = one_of(random, &["n", "N", "_", "input", "monitor", "define", "internal"]);
+    let mut name = one_of(random, &["n", "N", "_", "input", "monitor", "define", "internal", "past"]);
     while name.len() < count as usize {
         name += &one_of(random, &["a", "Z", "0", "9", "_"]);
     }
@@ -137,13 +137,13 @@ fn stores(random: &mut Random, count: u128) -> String {
     text + &format!("p -> a {{ s{last} <- D; s0 <- {}; }} || !a & D == s{last} & s0 == {};\nmonitor p;", random.below(16), random.below(16))
 }
 
-/// So many store tests in one letter: each written out, or by defines with some of them.
+/// So many store tests in one letter: each written out, or by defines with some of them. `past` is none.
 fn tests_of_stores(random: &mut Random, count: u128) -> String {
     let mut left = count as usize;
-    let mut text = String::from("input a; input b; internal s = 0; internal t = 1;\ndefine none = b;\ndefine one = s == 0;\ndefine two = t == 1 & b == s;\n");
+    let mut text = String::from("input a; input b; internal s = 0; internal t = 1;\ndefine none = b & b == past(b);\ndefine one = s == 0;\ndefine two = t == 1 & b == s;\n");
     let mut letter = String::from("a");
     while left > 0 {
-        let (tests, literal) = *random.pick(&[(0, "none"), (1, "one"), (2, "two"), (1, "s == 0"), (1, "b == t"), (1, "t == 1")]);
+        let (tests, literal) = *random.pick(&[(0, "none"), (0, "a == past(a)"), (1, "one"), (2, "two"), (1, "s == 0"), (1, "b == t"), (1, "t == 1")]);
         if tests <= left {
             letter += &format!(" & {literal}");
             left -= tests;
@@ -158,12 +158,13 @@ fn writes(random: &mut Random, count: u128) -> String {
     format!("input a; input b; internal s = 0; internal t = 1;\np -> a {{ {} }} || !a & b == s & t == 1;\nmonitor p;", written.join(" "))
 }
 
-/// Parentheses so deep, some with a letter before the next one.
+/// Parentheses so deep, some with a letter before the next one; those of `past` are no level.
 fn parentheses(random: &mut Random, count: u128) -> String {
     let left: String = (0..count).map(|_| one_of(random, &["(", "( ", "(a, ", "((a), "])).collect();
     let left = if left.ends_with("((a), ") { left[..left.len() - 6].to_string() + "(" } else { left };
     let right = ")".repeat(count as usize);
-    format!("input a;\np -> {left}a{right} || !a;\nmonitor p;")
+    let letter = one_of(random, &["a", "a & a == past(a)"]);
+    format!("input a;\np -> {left}{letter}{right} || !a;\nmonitor p;")
 }
 
 fn monitors(random: &mut Random, count: u128) -> String {

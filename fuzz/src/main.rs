@@ -3,7 +3,7 @@
 
 use fuzz::compare::{differs, records_differ};
 use fuzz::random::Random;
-use fuzz::{grow, save, shrink, Case};
+use fuzz::{grow, past, save, shrink, Case};
 use std::collections::BTreeMap;
 use std::path::Path;
 
@@ -22,17 +22,42 @@ fn report(seed: u64, case: Case) {
     println!("differs: seed {seed}, saved in {folder}");
 }
 
+/// How many accepted texts had `past`, and how their traces were judged.
+#[derive(Default)]
+struct Held {
+    texts: u64,
+    clean: u64,
+    bad: u64,
+    /// Of the bad ones, those that would be ok had the fields not moved.
+    moved: u64,
+}
+
+impl Held {
+    fn count(&mut self, case: &Case, kind: &str) {
+        if second::open(&case.text).is_err() || past::fields(&case.text).is_empty() {
+            return;
+        }
+        self.texts += 1;
+        self.clean += u64::from(kind == "clean");
+        self.bad += u64::from(kind == "bad");
+        self.moved += u64::from(past::moved(case));
+    }
+}
+
 fn main() {
     let mut args = std::env::args().skip(1);
     let count: u64 = args.next().and_then(|a| a.parse().ok()).unwrap_or(1000);
     let first: u64 = args.next().and_then(|a| a.parse().ok()).unwrap_or(1);
     println!("{count} cases from seed {first}");
     let mut kinds = BTreeMap::new();
+    let mut held = Held::default();
     let mut found = 0;
     for i in 0..count {
         let seed = first.wrapping_add(i);
         let case = grow::case(&mut Random::new(seed));
-        *kinds.entry(grow::kind(&case)).or_insert(0u64) += 1;
+        let kind = grow::kind(&case);
+        held.count(&case, &kind);
+        *kinds.entry(kind).or_insert(0u64) += 1;
         if fails(&case) {
             found += 1;
             report(seed, case);
@@ -41,6 +66,8 @@ fn main() {
     for (kind, n) in kinds {
         println!("{n:8} {kind}");
     }
+    let Held { texts, clean, bad, moved } = held;
+    println!("{texts:8} accepted with past: {clean} clean, {bad} bad, {moved} of these for a field that moved");
     println!("{count} cases, {found} differences");
     if found > 0 {
         std::process::exit(1);

@@ -12,7 +12,7 @@
 //! the speed does.
 
 use crate::graph::{Graph, LetterNo, Next, WHOLE};
-use crate::letter::Letter;
+use crate::letter::{Letter, Moment};
 use crate::set::Set;
 
 /// A branch between two ticks. Two obligations in the same place count as one.
@@ -44,13 +44,6 @@ impl Branch {
     pub fn letters(&self) -> Set {
         self.letters
     }
-}
-
-/// What a tick is judged by: its word and the store values before it.
-#[derive(Clone, Copy)]
-pub struct Moment<'a> {
-    pub word: u64,
-    pub stores: &'a [u64],
 }
 
 /// A branch on its way over a word: obligations still to be moved on, and the
@@ -152,11 +145,7 @@ impl Monitor {
         crossings: &mut Vec<Crossing>,
     ) {
         for &letter in letters {
-            if self
-                .letter(letter)
-                .condition
-                .holds(moment.word, moment.stores)
-            {
+            if self.letter(letter).condition.holds(moment) {
                 let mut crossing = crossing;
                 crossing.over.insert(letter);
                 crossings.push(crossing);

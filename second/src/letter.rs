@@ -27,6 +27,16 @@ pub fn largest(width: u32) -> u64 {
     u64::MAX >> (64 - width)
 }
 
+/// What a tick is judged by.
+#[derive(Clone, Copy)]
+pub struct Moment<'a> {
+    pub word: u64,
+    /// The word of the tick before; at tick 0, zero.
+    pub before: u64,
+    /// The store values before the tick.
+    pub stores: &'a [u64],
+}
+
 /// A literal that looks at a store (its value before the tick).
 #[derive(Clone, Copy, Debug, PartialEq, Eq)]
 pub enum StoreTest {
@@ -37,7 +47,8 @@ pub enum StoreTest {
 }
 
 impl StoreTest {
-    fn holds(&self, word: u64, stores: &[u64]) -> bool {
+    fn holds(&self, moment: Moment<'_>) -> bool {
+        let Moment { word, stores, .. } = moment;
         match *self {
             StoreTest::WireIs { field, store } => field.value(word) == stores[store],
             StoreTest::StoreIs { store, value } => stores[store] == value,
@@ -46,11 +57,13 @@ impl StoreTest {
 }
 
 /// Literals joined by `&`. All wire literals together say which bits must
-/// stand and which must not; store tests are kept one by one.
+/// stand and which must not, all `past` literals which must be those of the
+/// word before; store tests are kept one by one.
 #[derive(Clone, Debug, Default, PartialEq, Eq)]
 pub struct Condition {
     ones: u64,
     zeros: u64,
+    held: u64,
     tests: Vec<StoreTest>,
 }
 
@@ -71,6 +84,11 @@ impl Condition {
         self.zeros |= field.place(!value & largest(field.width));
     }
 
+    /// Adds the literal `field == past(field)`.
+    pub fn require_held(&mut self, field: Field) {
+        self.held |= field.place(largest(field.width));
+    }
+
     /// Adds a store test. One more than a letter may hold is kept, to know
     /// that there are too many (only a define can have them); further ones
     /// are dropped, so that defines joined to themselves stay small.
@@ -84,6 +102,7 @@ impl Condition {
     pub fn require_all(&mut self, other: &Condition) {
         self.ones |= other.ones;
         self.zeros |= other.zeros;
+        self.held |= other.held;
         for test in &other.tests {
             self.require_store(*test);
         }
@@ -105,11 +124,13 @@ impl Condition {
         (self.ones | other.ones) & (self.zeros | other.zeros) == 0
     }
 
-    /// Whether the word and the store values before the tick meet all literals.
-    pub fn holds(&self, word: u64, stores: &[u64]) -> bool {
+    /// Whether the moment meets all literals.
+    pub fn holds(&self, moment: Moment<'_>) -> bool {
+        let Moment { word, before, .. } = moment;
         word & self.ones == self.ones
             && word & self.zeros == 0
-            && self.tests.iter().all(|test| test.holds(word, stores))
+            && (word ^ before) & self.held == 0
+            && self.tests.iter().all(|test| test.holds(moment))
     }
 }
 
@@ -151,6 +172,24 @@ mod tests {
     const WHOLE: Field = Field { low: 0, width: 64 };
     const HIGH: Field = Field { low: 60, width: 4 };
 
+    /// Whether a condition holds at tick 0.
+    fn holds(condition: &Condition, word: u64, stores: &[u64]) -> bool {
+        condition.holds(Moment {
+            word,
+            before: 0,
+            stores,
+        })
+    }
+
+    /// Whether a condition holds for a word and the word before.
+    fn holds_after(condition: &Condition, before: u64, word: u64) -> bool {
+        condition.holds(Moment {
+            word,
+            before,
+            stores: &[],
+        })
+    }
+
     #[test]
     fn fields_at_the_edges_of_the_word() {
         assert_eq!(WHOLE.value(u64::MAX), u64::MAX);
@@ -163,9 +202,9 @@ mod tests {
     fn values_fix_every_bit_of_their_field() {
         let mut nine = Condition::default();
         nine.require_value(HIGH, 9);
-        assert!(nine.holds(0x9000_0000_0000_0001, &[]));
-        assert!(!nine.holds(0xb000_0000_0000_0001, &[]));
-        assert!(!nine.holds(0x1000_0000_0000_0001, &[]));
+        assert!(holds(&nine, 0x9000_0000_0000_0001, &[]));
+        assert!(!holds(&nine, 0xb000_0000_0000_0001, &[]));
+        assert!(!holds(&nine, 0x1000_0000_0000_0001, &[]));
 
         let mut eight = Condition::default();
         eight.require_value(HIGH, 8);
@@ -180,7 +219,32 @@ mod tests {
         both.require_store(StoreTest::StoreIs { store: 0, value: 1 });
         both.require_store(StoreTest::StoreIs { store: 0, value: 0 });
         assert!(!both.is_impossible());
-        assert!(!both.holds(0, &[0]) && !both.holds(0, &[1]));
+        assert!(!holds(&both, 0, &[0]) && !holds(&both, 0, &[1]));
+    }
+
+    #[test]
+    fn held_fields_look_at_their_own_bits_in_both_words() {
+        let mut held = Condition::default();
+        held.require_held(HIGH);
+        assert!(holds_after(&held, 9 << 60, (9 << 60) + 5));
+        assert!(!holds_after(&held, 9 << 60, 8 << 60));
+        assert!(!holds_after(&held, 0, 1 << 63));
+        held.require_held(WHOLE);
+        assert!(holds_after(&held, u64::MAX, u64::MAX));
+        assert!(!holds_after(&held, u64::MAX, u64::MAX - 1));
+    }
+
+    #[test]
+    fn held_fields_are_no_part_of_impossible_nor_store_tests() {
+        let mut held = Condition::default();
+        held.require_held(HIGH);
+        let mut nine = Condition::default();
+        nine.require_value(HIGH, 9);
+        nine.require_all(&held);
+        assert!(!nine.is_impossible() && nine.shares_a_word_with(&held));
+        assert_eq!(nine.store_tests(), 0);
+        assert!(!holds(&nine, 9 << 60, &[]));
+        assert!(holds_after(&nine, 9 << 60, 9 << 60));
     }
 
     #[test]

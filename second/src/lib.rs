@@ -11,6 +11,9 @@
 //! 6. `watch` keeps the branches and the stores from tick to tick,
 //! 7. `record` reads and writes wire records, `sheet` prints.
 //!
+//! `cases`, `batch` and `stage` are for comparing: files of cases, cases from
+//! another program, and cases for another program.
+//!
 //! ```
 //! let text = b"input a; p -> a; monitor p;";
 //! let program = second::open(text).unwrap();
@@ -19,9 +22,11 @@
 //! assert_eq!(watch.tick(0), second::Answer::Bad(0));
 //! ```
 
+pub mod batch;
 pub mod cases;
 pub mod record;
 pub mod refusal;
+pub mod stage;
 
 mod expr;
 mod fit;

@@ -1,12 +1,18 @@
-//! The program `second`: prints sheets and checks files of cases.
+//! The program `second`: prints sheets, answers cases and checks files of them.
 
 use std::ffi::OsString;
-use std::io::Write;
+use std::fmt::Display;
+use std::io::{BufWriter, Write};
 use std::process::ExitCode;
 
+use second::batch;
 use second::cases::{self, Difference};
+use second::stage::{self, Entry};
 
-const USAGE: &str = "usage: second sheet RULES TRACE\n       second cases FILE...";
+const USAGE: &str = "usage: second sheet RULES TRACE
+       second cases FILE...
+       second stage FILE [PROGRAM ARGUMENT...]
+       second --batch";
 
 /// How many bytes of a sheet are shown where it differs.
 const SHOWN: usize = 120;
@@ -16,6 +22,8 @@ fn main() -> ExitCode {
     match arguments.as_slice() {
         [command, rules, trace] if command == "sheet" => print_sheet(rules, trace),
         [command, files @ ..] if command == "cases" && !files.is_empty() => check_files(files),
+        [command, file, program @ ..] if command == "stage" => check_stage(file, program),
+        [command] if command == "--batch" => answer_cases(),
         _ => {
             eprintln!("{USAGE}");
             ExitCode::from(2)
@@ -33,10 +41,50 @@ fn print_sheet(rules: &OsString, trace: &OsString) -> ExitCode {
     }
 }
 
+/// Answers the cases of standard input on standard output.
+fn answer_cases() -> ExitCode {
+    let mut cases = std::io::stdin().lock();
+    let mut answers = BufWriter::new(std::io::stdout().lock());
+    match batch::answer_all(&mut cases, &mut answers) {
+        Ok(()) => ExitCode::SUCCESS,
+        Err(error) => {
+            eprintln!("second: {error}");
+            ExitCode::FAILURE
+        }
+    }
+}
+
+/// How many cases passed and failed.
 #[derive(Default)]
 struct Tally {
     passed: usize,
     failed: usize,
+}
+
+impl Tally {
+    /// Counts a failure, and prints what is known of it.
+    fn fail(&mut self, line: impl Display) {
+        println!("{line}");
+        self.failed += 1;
+    }
+
+    /// Counts a case that was compared.
+    fn count(&mut self, difference: Option<Difference>) {
+        match difference {
+            None => self.passed += 1,
+            Some(difference) => self.fail(described(&difference)),
+        }
+    }
+
+    /// Prints both numbers; they decide how the program ends.
+    fn close(self) -> ExitCode {
+        println!("{} passed, {} failed", self.passed, self.failed);
+        if self.failed == 0 {
+            ExitCode::SUCCESS
+        } else {
+            ExitCode::FAILURE
+        }
+    }
 }
 
 /// Checks all cases of all files. A file that cannot be read fails as one case.
@@ -46,34 +94,64 @@ fn check_files(files: &[OsString]) -> ExitCode {
         let name = file.to_string_lossy();
         match std::fs::read(file) {
             Ok(bytes) => check_cases(&name, &bytes, &mut tally),
-            Err(error) => {
-                println!("{name}: {error}");
-                tally.failed += 1;
-            }
+            Err(error) => tally.fail(format_args!("{name}: {error}")),
         }
     }
-    println!("{} passed, {} failed", tally.passed, tally.failed);
-    if tally.failed == 0 {
-        ExitCode::SUCCESS
-    } else {
-        ExitCode::FAILURE
-    }
+    tally.close()
 }
 
 fn check_cases(name: &str, bytes: &[u8], tally: &mut Tally) {
     let Some(cases) = cases::read(bytes) else {
-        println!("{name}: no row of cases");
-        tally.failed += 1;
+        tally.fail(format_args!("{name}: no row of cases"));
         return;
     };
     for case in cases {
-        match case.check() {
-            None => tally.passed += 1,
-            Some(difference) => {
-                println!("{}", described(&difference));
-                tally.failed += 1;
-            }
+        tally.count(case.check());
+    }
+}
+
+/// Checks all cases of a stage file: the answers given here, or those of
+/// another program if one is named.
+fn check_stage(file: &OsString, program: &[OsString]) -> ExitCode {
+    let mut tally = Tally::default();
+    let name = file.to_string_lossy();
+    match std::fs::read(file).and_then(|bytes| stage::read(&bytes)) {
+        Ok(entries) if entries.is_empty() => tally.fail(format_args!("{name}: no cases")),
+        Ok(entries) => match program {
+            [] => check_own_answers(&entries, &mut tally),
+            [program, arguments @ ..] => check_program(program, arguments, &entries, &mut tally),
+        },
+        Err(error) => tally.fail(format_args!("{name}: {error}")),
+    }
+    tally.close()
+}
+
+fn check_own_answers(entries: &[Entry], tally: &mut Tally) {
+    for entry in entries {
+        match entry.case.answer() {
+            Ok(answer) => tally.count(entry.compare(answer)),
+            Err(error) => tally.fail(format_args!("{}: {error}", entry.name)),
         }
+    }
+}
+
+/// Each case without an answer fails, and so does a program that ends badly or
+/// says more than it was asked, as one case.
+fn check_program(program: &OsString, arguments: &[OsString], entries: &[Entry], tally: &mut Tally) {
+    let name = program.to_string_lossy();
+    let said = match stage::ask(program, arguments, entries) {
+        Ok(said) => said,
+        Err(error) => return tally.fail(format_args!("{name}: {error}")),
+    };
+    let mut answers = said.answers.into_iter();
+    for entry in entries {
+        match answers.next() {
+            Some(answer) => tally.count(entry.compare(answer)),
+            None => tally.fail(format_args!("{}: no answer", entry.name)),
+        }
+    }
+    if let Some(fault) = said.fault {
+        tally.fail(format_args!("{name}: {fault}"));
     }
 }
 

@@ -10,7 +10,7 @@ use crate::expr::{Expr, ExprId, Exprs};
 use crate::letter::{largest, Condition, Field, Letter, Source, StoreTest, Write};
 use crate::limit;
 use crate::refusal::{Reason, Refusal};
-use crate::token::{Lexer, Token};
+use crate::token::{Lexer, Reserved, Token, RULE_WORDS};
 
 type Result<T> = std::result::Result<T, Refusal>;
 
@@ -30,7 +30,7 @@ pub fn parse(text: &[u8]) -> Result<Parsed> {
     if text.len() > limit::TEXT_BYTES {
         return Err(Refusal::at_byte(Reason::Overlong, 0));
     }
-    let mut parser = Parser::new(text);
+    let mut parser = Parser::new(text, RULE_WORDS);
     parser.declarations()?;
     parser.monitor_statement()?;
     parser.expect(Token::End)?;
@@ -84,8 +84,8 @@ struct Parser<'t> {
 
 // Moving over tokens, and refusing them.
 impl<'t> Parser<'t> {
-    fn new(text: &'t [u8]) -> Self {
-        let mut lexer = Lexer::new(text);
+    fn new(text: &'t [u8], reserved: Reserved) -> Self {
+        let mut lexer = Lexer::new(text, reserved);
         let (token, at) = lexer.advance();
         Parser {
             lexer,
@@ -415,11 +415,11 @@ impl Parser<'_> {
         within: Within,
         condition: &mut Condition,
     ) -> Result<()> {
-        let name_at = self.at;
+        let (name, name_at) = (self.token, self.at);
         self.advance();
         match self.token {
             Token::OpenBracket => self.bit(field, true, condition),
-            Token::Equals => self.wire_equals(field, within, condition),
+            Token::Equals => self.wire_equals(name, field, within, condition),
             _ => bare_wire(field, name_at, true, condition),
         }
     }
@@ -437,19 +437,44 @@ impl Parser<'_> {
         Ok(())
     }
 
-    /// `== number` or `== store`
+    /// `== number`, `== past(N)` or `== store` behind a wire's name
     fn wire_equals(
         &mut self,
+        name: Token<'_>,
         field: Field,
         within: Within,
         condition: &mut Condition,
     ) -> Result<()> {
         self.expect(Token::Equals)?;
-        if let Token::Number(_) = self.token {
-            let value = self.value_of_width(field.width)?;
-            condition.require_value(field, value);
-            return Ok(());
+        match self.token {
+            Token::Number(_) => {
+                let value = self.value_of_width(field.width)?;
+                condition.require_value(field, value);
+                Ok(())
+            }
+            Token::Past => self.past(name, field, condition),
+            _ => self.wire_is_store(field, within, condition),
         }
+    }
+
+    /// `past(N)`; N can only be the same name once more, and whatever else
+    /// stands there is misplaced.
+    fn past(&mut self, name: Token<'_>, field: Field, condition: &mut Condition) -> Result<()> {
+        self.expect(Token::Past)?;
+        self.expect(Token::OpenParen)?;
+        self.expect(name)?;
+        self.expect(Token::CloseParen)?;
+        condition.require_held(field);
+        Ok(())
+    }
+
+    /// The store that a wire must be equal to
+    fn wire_is_store(
+        &mut self,
+        field: Field,
+        within: Within,
+        condition: &mut Condition,
+    ) -> Result<()> {
         let Meaning::Store(store) = self.known_name_here()? else {
             return self.refuse(Reason::Unknown);
         };

@@ -12,6 +12,7 @@ pub enum Token<'t> {
     Internal,
     Define,
     Monitor,
+    Past,
     // The signs.
     Semicolon,
     Comma,
@@ -60,29 +61,47 @@ const SIGNS: [(&[u8], Token<'static>); 18] = [
     (b"=", Token::Assign),
 ];
 
-/// Reads tokens from front to back.
+/// Reserved words, each with its token; every other word is a name.
+pub type Reserved = &'static [(&'static [u8], Token<'static>)];
+
+/// The reserved words of a rule text.
+pub const RULE_WORDS: Reserved = &[
+    (b"input", Token::Input),
+    (b"internal", Token::Internal),
+    (b"define", Token::Define),
+    (b"monitor", Token::Monitor),
+    (b"past", Token::Past),
+];
+
+/// Reads tokens from front to back. Which words are reserved depends on the
+/// kind of text, so it is given their list.
 pub struct Lexer<'t> {
     text: &'t [u8],
     at: usize,
+    reserved: Reserved,
 }
 
 impl<'t> Lexer<'t> {
-    pub fn new(text: &'t [u8]) -> Self {
-        Lexer { text, at: 0 }
+    pub fn new(text: &'t [u8], reserved: Reserved) -> Self {
+        Lexer {
+            text,
+            at: 0,
+            reserved,
+        }
     }
 
     /// The next token and its first byte; at the end, the text's length.
     pub fn advance(&mut self) -> (Token<'t>, usize) {
         self.at += run_length(&self.text[self.at..], is_blank);
         let begin = self.at;
-        let (token, length) = token_at(&self.text[begin..]);
+        let (token, length) = token_at(&self.text[begin..], self.reserved);
         self.at += length;
         (token, begin)
     }
 }
 
 /// The token that begins at the first byte of `rest`, and its length.
-fn token_at(rest: &[u8]) -> (Token<'_>, usize) {
+fn token_at(rest: &[u8], reserved: Reserved) -> (Token<'_>, usize) {
     match rest.first() {
         None => (Token::End, 0),
         Some(&byte) if byte.is_ascii_digit() => {
@@ -91,7 +110,7 @@ fn token_at(rest: &[u8]) -> (Token<'_>, usize) {
         }
         Some(&byte) if is_name_byte(byte) => {
             let length = run_length(rest, is_name_byte);
-            (word(&rest[..length]), length)
+            (word(&rest[..length], reserved), length)
         }
         Some(_) => sign(rest),
     }
@@ -107,15 +126,16 @@ fn sign(rest: &[u8]) -> (Token<'_>, usize) {
 }
 
 /// A reserved word or a name.
-fn word(bytes: &[u8]) -> Token<'_> {
-    match bytes {
-        b"input" => Token::Input,
-        b"internal" => Token::Internal,
-        b"define" => Token::Define,
-        b"monitor" => Token::Monitor,
-        _ if bytes.len() > limit::NAME_BYTES => Token::Knot,
-        _ => Token::Name(bytes),
+fn word(bytes: &[u8], reserved: Reserved) -> Token<'_> {
+    for &(spelling, token) in reserved {
+        if bytes == spelling {
+            return token;
+        }
     }
+    if bytes.len() > limit::NAME_BYTES {
+        return Token::Knot;
+    }
+    Token::Name(bytes)
 }
 
 fn number(digits: &[u8]) -> Token<'_> {
@@ -150,7 +170,11 @@ mod tests {
     use super::*;
 
     fn tokens(text: &str) -> Vec<(Token<'_>, usize)> {
-        let mut lexer = Lexer::new(text.as_bytes());
+        tokens_with(RULE_WORDS, text)
+    }
+
+    fn tokens_with(reserved: Reserved, text: &str) -> Vec<(Token<'_>, usize)> {
+        let mut lexer = Lexer::new(text.as_bytes(), reserved);
         let mut found = Vec::new();
         loop {
             let (token, at) = lexer.advance();
@@ -192,6 +216,22 @@ mod tests {
     }
 
     #[test]
+    fn the_list_says_which_words_are_reserved() {
+        let text = "past define pasts Past";
+        let names = [
+            (Token::Name(b"past"), 0),
+            (Token::Name(b"define"), 5),
+            (Token::Name(b"pasts"), 12),
+            (Token::Name(b"Past"), 18),
+            (Token::End, 22),
+        ];
+        assert_eq!(tokens_with(&[], text), names);
+        let found = tokens_with(RULE_WORDS, text);
+        assert_eq!(found[..2], [(Token::Past, 0), (Token::Define, 5)]);
+        assert_eq!(found[2..], names[2..]);
+    }
+
+    #[test]
     fn numbers_up_to_two_to_the_64() {
         let zeros = "0".repeat(100);
         assert_eq!(tokens("18446744073709551615")[0].0, Token::Number(u64::MAX));
@@ -206,7 +246,7 @@ mod tests {
             b"abcdefghijklmnopqrstuvwxyzABCDEFGHIJKLMNOPQRSTUVWXYZ_0123456789;,@*&!()[]{}:=";
         for byte in 0..=255u8 {
             let text = [byte];
-            let (token, at) = Lexer::new(&text).advance();
+            let (token, at) = Lexer::new(&text, RULE_WORDS).advance();
             let blank = b" \t\r\n".contains(&byte);
             assert_eq!(token == Token::End, blank, "byte {byte}");
             assert_eq!(

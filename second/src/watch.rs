@@ -1,6 +1,8 @@
-//! The watch: branches, stores and the tick count, carried from tick to tick.
+//! The watch: branches, stores, the last word and the tick count, carried from
+//! tick to tick.
 
-use crate::fit::{Branch, Crossing, Moment};
+use crate::fit::{Branch, Crossing};
+use crate::letter::Moment;
 use crate::limit;
 use crate::refusal::{Reason, Refusal};
 use crate::set::Set;
@@ -21,6 +23,8 @@ pub struct Watch<'p> {
     program: &'p Program,
     ticks: u32,
     stopped: bool,
+    /// The word of the last ok tick.
+    before: u64,
     stores: Vec<u64>,
     /// For each monitor, the branches that fit all words so far.
     branches: Vec<Vec<Branch>>,
@@ -36,6 +40,7 @@ impl<'p> Watch<'p> {
             program,
             ticks: 0,
             stopped: false,
+            before: 0,
             stores: program.stores.clone(),
             branches: vec![vec![Branch::before_tick_0()]; monitors],
             next: vec![Vec::new(); monitors],
@@ -46,6 +51,11 @@ impl<'p> Watch<'p> {
     /// How many ticks were ok.
     pub fn ticks(&self) -> u32 {
         self.ticks
+    }
+
+    /// The word of the last tick that was ok; zero before tick 0.
+    pub fn word_before(&self) -> u64 {
+        self.before
     }
 
     /// The store values, in the order of their declarations.
@@ -70,6 +80,7 @@ impl<'p> Watch<'p> {
         }
         std::mem::swap(&mut self.branches, &mut self.next);
         self.write_stores(word);
+        self.before = word;
         self.ticks += 1;
         Answer::Ok
     }
@@ -96,6 +107,7 @@ impl<'p> Watch<'p> {
     fn cross(&mut self, word: u64) -> Option<usize> {
         let moment = Moment {
             word,
+            before: self.before,
             stores: &self.stores,
         };
         for (number, monitor) in self.program.monitors.iter().enumerate() {

@@ -13,54 +13,69 @@ use std::rc::Rc;
 use common::Numbers;
 use second::{Answer, Watch};
 
-// The texts: wires a, b, c (bits 0 to 2) and D (bits 3 and 4), stores s and t.
+// The texts: wires a, b, c (bits 0 to 2) and D (bits 3 and 4), stores s and t,
+// a define for what two wires were before.
 
 const DECLARED: &str =
-    "input a; input b; input c; input D[1:0]; internal s = 0; internal t[1:0] = 2; ";
+    "input a; input b; input c; input D[1:0]; internal s = 0; internal t[1:0] = 2; \
+     define held = c == past(c) & D == past(D); ";
 const FIRST_VALUES: Stores = [0, 2];
 const WORDS: u64 = 32;
 
 type Stores = [u64; 2];
 
+/// Whether a literal holds: from the word, the word before and the stores.
+type Holds = fn(u64, u64, &Stores) -> bool;
+
 struct Literal {
     text: &'static str,
-    looks_at_store: bool,
-    holds: fn(u64, &Stores) -> bool,
+    /// Whether only the word decides it, so that it counts for the shape.
+    word_decides: bool,
+    holds: Holds,
 }
 
-const fn wire(text: &'static str, holds: fn(u64, &Stores) -> bool) -> Literal {
+const fn wire(text: &'static str, holds: Holds) -> Literal {
     Literal {
         text,
-        looks_at_store: false,
+        word_decides: true,
         holds,
     }
 }
 
-const fn store(text: &'static str, holds: fn(u64, &Stores) -> bool) -> Literal {
+const fn other(text: &'static str, holds: Holds) -> Literal {
     Literal {
         text,
-        looks_at_store: true,
+        word_decides: false,
         holds,
     }
 }
 
-static LITERALS: [Literal; 16] = [
-    wire("a", |w, _| w & 1 == 1),
-    wire("!a", |w, _| w & 1 == 0),
-    wire("b", |w, _| w & 2 == 2),
-    wire("!b", |w, _| w & 2 == 0),
-    wire("c", |w, _| w & 4 == 4),
-    wire("!c[0]", |w, _| w & 4 == 0),
-    wire("D == 0", |w, _| w >> 3 == 0),
-    wire("D == 1", |w, _| w >> 3 == 1),
-    wire("D == 2", |w, _| w >> 3 == 2),
-    wire("D == 3", |w, _| w >> 3 == 3),
-    wire("D[1]", |w, _| w & 16 == 16),
-    wire("!D[0]", |w, _| w & 8 == 0),
-    store("a == s", |w, s| w & 1 == s[0]),
-    store("s == 1", |_, s| s[0] == 1),
-    store("D == t", |w, s| w >> 3 == s[1]),
-    store("t == 2", |_, s| s[1] == 2),
+/// Those that only the word decides.
+static WIRE_LITERALS: [Literal; 12] = [
+    wire("a", |w, _, _| w & 1 == 1),
+    wire("!a", |w, _, _| w & 1 == 0),
+    wire("b", |w, _, _| w & 2 == 2),
+    wire("!b", |w, _, _| w & 2 == 0),
+    wire("c", |w, _, _| w & 4 == 4),
+    wire("!c[0]", |w, _, _| w & 4 == 0),
+    wire("D == 0", |w, _, _| w >> 3 == 0),
+    wire("D == 1", |w, _, _| w >> 3 == 1),
+    wire("D == 2", |w, _, _| w >> 3 == 2),
+    wire("D == 3", |w, _, _| w >> 3 == 3),
+    wire("D[1]", |w, _, _| w & 16 == 16),
+    wire("!D[0]", |w, _, _| w & 8 == 0),
+];
+
+/// Those that need more: at most two of them stand in a letter.
+static OTHER_LITERALS: [Literal; 8] = [
+    other("a == s", |w, _, s| w & 1 == s[0]),
+    other("s == 1", |_, _, s| s[0] == 1),
+    other("D == t", |w, _, s| w >> 3 == s[1]),
+    other("t == 2", |_, _, s| s[1] == 2),
+    other("a == past(a)", |w, p, _| w & 1 == p & 1),
+    other("b == past(b)", |w, p, _| w & 2 == p & 2),
+    other("D == past(D)", |w, p, _| w >> 3 == p >> 3),
+    other("held", |w, p, _| w & 4 == p & 4 && w >> 3 == p >> 3),
 ];
 
 struct Write {
@@ -104,9 +119,10 @@ impl Letter {
         while letter.is_impossible() && numbers.below(20) != 0 {
             letter = Letter::random_wires(numbers);
         }
-        if numbers.below(5) == 0 {
-            letter.literals.push(&LITERALS[12 + numbers.below(4)]);
-        }
+        let count = numbers.below(8).saturating_sub(5);
+        letter
+            .literals
+            .extend((0..count).map(|_| &OTHER_LITERALS[numbers.below(8)]));
         let count = numbers.below(6).saturating_sub(3);
         letter.writes = (0..count).map(|_| &WRITES[numbers.below(4)]).collect();
         letter
@@ -114,7 +130,9 @@ impl Letter {
 
     fn random_wires(numbers: &mut Numbers) -> Letter {
         let count = 1 + numbers.below(2);
-        let literals = (0..count).map(|_| &LITERALS[numbers.below(12)]).collect();
+        let literals = (0..count)
+            .map(|_| &WIRE_LITERALS[numbers.below(12)])
+            .collect();
         Letter {
             literals,
             writes: Vec::new(),
@@ -132,10 +150,10 @@ impl Letter {
         literals.join(" & ") + &braces
     }
 
-    fn meets(&self, word: u64, stores: &Stores) -> bool {
+    fn meets(&self, word: u64, before: u64, stores: &Stores) -> bool {
         self.literals
             .iter()
-            .all(|literal| (literal.holds)(word, stores))
+            .all(|literal| (literal.holds)(word, before, stores))
     }
 
     fn is_impossible(&self) -> bool {
@@ -143,11 +161,8 @@ impl Letter {
     }
 
     fn wires_meet(&self, word: u64) -> bool {
-        let mut wires = self
-            .literals
-            .iter()
-            .filter(|literal| !literal.looks_at_store);
-        wires.all(|literal| (literal.holds)(word, &[0, 0]))
+        let mut wires = self.literals.iter().filter(|literal| literal.word_decides);
+        wires.all(|literal| (literal.holds)(word, 0, &[0, 0]))
     }
 }
 
@@ -448,6 +463,7 @@ impl Monitor {
 struct State<'e> {
     branches: Vec<Vec<Doing<'e>>>,
     stores: Stores,
+    before: u64,
 }
 
 impl<'e> State<'e> {
@@ -457,6 +473,7 @@ impl<'e> State<'e> {
         State {
             branches: vec![vec![begin]; monitors],
             stores: FIRST_VALUES,
+            before: 0,
         }
     }
 
@@ -465,9 +482,11 @@ impl<'e> State<'e> {
         let mut next = State {
             branches: Vec::new(),
             stores: self.stores,
+            before: word,
         };
         for (number, monitor) in monitors.iter().enumerate() {
-            let met = |letter: usize| monitor.letters[letter].meets(word, &self.stores);
+            let met =
+                |letter: usize| monitor.letters[letter].meets(word, self.before, &self.stores);
             let branches = next_branches(&self.branches[number], &monitor.expr, &met);
             if branches.is_empty() {
                 return Err(number);
@@ -574,6 +593,7 @@ fn run(
             Ok(next) => {
                 assert_eq!(answer, Answer::Ok, "{text} {words:?}");
                 assert_eq!(watch.stores(), next.stores, "{text} {words:?}");
+                assert_eq!(watch.word_before(), word, "{text} {words:?}");
                 assert_eq!(watch.widest(), 1, "{text} {words:?}");
                 seen.ok += 1;
                 seen.written += usize::from(next.stores != state.stores);
@@ -588,6 +608,7 @@ fn run(
             Err(monitor) => {
                 assert_eq!(answer, Answer::Bad(monitor), "{text} {words:?}");
                 assert_eq!(watch.stores(), state.stores, "{text} {words:?}");
+                assert_eq!(watch.word_before(), state.before, "{text} {words:?}");
                 seen.bad += 1;
                 return;
             }

@@ -1,4 +1,4 @@
-//! The program's two commands, run as a user would.
+//! The commands `sheet` and `cases`, run as a user would.
 
 use std::path::PathBuf;
 use std::process::{Command, Output};

@@ -22,6 +22,9 @@ const REFUSALS: [(&str, &str); 18] = [
     ("short bin", "the room for a record is too small"),
 ];
 
+/// What is said besides where the word `past` has to do with a misplaced token.
+pub const PAST: &str = "; past stands only in WIRE == past(WIRE), both times the bare name of the same input";
+
 /// The word of a refusal's number.
 pub fn word(number: usize) -> &'static str {
     entry(number).0

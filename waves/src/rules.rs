@@ -65,7 +65,17 @@ fn refused(text: &[u8], numbers: &str) -> String {
         [number, ..] => (number, String::new()),
         [] => (0, String::new()),
     };
-    format!("the rule text is refused {number} ({}){place}: {}", refusals::word(number), refusals::reason(number))
+    let past = if matches!(numbers[..], [3, byte] if is_about_past(text, byte)) { refusals::PAST } else { "" };
+    format!("the rule text is refused {number} ({}){place}: {}{past}", refusals::word(number), refusals::reason(number))
+}
+
+/// Whether a misplaced token is the word `past`, or `==` before it, or stands where the word's parentheses and name should be.
+fn is_about_past(text: &[u8], byte: usize) -> bool {
+    let (before, from) = text.split_at(byte.min(text.len()));
+    let (before, from) = (String::from_utf8_lossy(before), String::from_utf8_lossy(from));
+    let (before, from) = (tokens(&before), tokens(&from));
+    let is_here = from.starts_with(&["past"]) || from.starts_with(&["=", "=", "past"]);
+    is_here || matches!(before[..], [.., "past"] | [.., "past", "("] | [.., "past", "(", _])
 }
 
 /// The name of a monitor, in brackets behind its number.
@@ -142,6 +152,8 @@ mod tests {
     fn names_that_hold_reserved_words_are_names() {
         let text = "input input_1; input xinput; input monitors; define inputs = input_1; p -> inputs & !xinput & monitors; monitor p;";
         assert_eq!(wires(text), [wire("input_1", 0, 1), wire("xinput", 1, 1), wire("monitors", 2, 1)]);
+        let text = "input past_1; input Past[2:0]; input pasts; p -> past_1 & Past == past(Past) & !pasts; monitor p;";
+        assert_eq!(wires(text), [wire("past_1", 0, 1), wire("Past", 1, 3), wire("pasts", 4, 1)]);
     }
 
     #[test]
@@ -164,6 +176,49 @@ mod tests {
         let all = Wire { name: String::from("g"), low: 0, width: 64 };
         assert_eq!(all.value(u64::MAX), u64::MAX);
         assert_eq!(all.changed(5, 7), 7);
+    }
+
+    #[test]
+    fn texts_with_past_have_their_wires_and_monitors() {
+        let rules = open(b"input a; input D[7:0]; define held = D == past(D) & a == past ( a ); p -> held || D == 1 & !a; monitor p;");
+        assert!(rules.unwrap_err().starts_with("the rule text is refused 12 (fork) at monitor 0 (p), letter 0: "));
+        let rules = open(b"input a; input D[7:0]; define held = D == past(D) & a == past ( a ); p -> a & held || !a; monitor p, p;").unwrap();
+        assert_eq!(rules.wires.iter().map(Wire::label).collect::<Vec<String>>(), ["a", "D[7:0]"]);
+        assert_eq!(rules.monitors, ["p", "p"]);
+    }
+
+    /// Where a misplaced token has to do with `past` it is said how the word stands, and nowhere else.
+    #[test]
+    fn misplaced_past_is_explained() {
+        let said = |rest: &str| open(format!("input a; input F[3:0]; input G[3:0]; internal s = 0; {rest}").as_bytes()).unwrap_err();
+        let about_past = [
+            "p -> F == past(G); monitor p;",
+            "p -> F == past(zz); monitor p;",
+            "p -> F == past((F)); monitor p;",
+            "p -> F == past(F[0]); monitor p;",
+            "p -> F == past(F; monitor p;",
+            "p -> F == past F; monitor p;",
+            "p -> F == past(",
+            "p -> !a == past(a); monitor p;",
+            "p -> F[0] == past(F[0]); monitor p;",
+            "p -> s == past(s); monitor p;",
+            "p -> a {s <- past(a);}; monitor p;",
+            "past -> a; monitor past;",
+            "input past;",
+            "define past = a; \u{e4}",
+        ];
+        for rest in about_past {
+            assert!(
+                said(rest).ends_with(&format!(" does not allow this token, or the end of the text, here{}", refusals::PAST)),
+                "{rest}: {}",
+                said(rest)
+            );
+        }
+        for rest in
+            ["p -> F == past(F) a;", "p -> a & ;", "input ; p -> F == past(F);", "p -> !a == 1 & F == past(F);", "p -> F == past(F) & G == zz;"]
+        {
+            assert!(!said(rest).contains("past"), "{rest}: {}", said(rest));
+        }
     }
 
     #[test]

@@ -15,8 +15,8 @@ fn proved(text: &[u8], records: &[u8], sheet: &mut [u8]) -> usize {
     unsafe { linewatch_sheet(text.as_ptr(), text.len(), records.as_ptr(), records.len(), sheet.as_mut_ptr(), sheet.len()) }
 }
 
-/// Words that keep the rules: random ones, most of them from `pool`, each tried on a copy of the watch.
-fn words(text: &[u8], pool: &[u64]) -> Vec<u64> {
+/// Words that keep the rules: of those that `drawn` makes of random bits and the word before, each tried on a copy of the watch.
+fn words(text: &[u8], drawn: impl Fn(u64, u64) -> u64) -> Vec<u64> {
     let program = second::open(text).expect("the text is accepted");
     let mask = if program.wires() == 64 { u64::MAX } else { (1 << program.wires()) - 1 };
     let mut watch = Watch::new(&program);
@@ -27,7 +27,7 @@ fn words(text: &[u8], pool: &[u64]) -> Vec<u64> {
         seed ^= seed << 13;
         seed ^= seed >> 7;
         seed ^= seed << 17;
-        let word = if pool.is_empty() { (seed >> 3) & mask } else { pool[(seed >> 3) as usize % pool.len()] };
+        let word = drawn(seed >> 3, words.last().copied().unwrap_or(0)) & mask;
         let mut next = watch.clone();
         if next.tick(word) == Answer::Ok {
             watch = next;
@@ -54,9 +54,19 @@ fn records(words: &[u64]) -> Vec<u8> {
     trace
 }
 
-fn compare(name: &str, text: &[u8], pool: &[u64]) {
+/// Any word.
+fn any(dice: u64, _: u64) -> u64 {
+    dice
+}
+
+/// One of some words.
+fn from(pool: &[u64]) -> impl Fn(u64, u64) -> u64 + '_ {
+    |dice, _| pool[dice as usize % pool.len()]
+}
+
+fn compare(name: &str, text: &[u8], drawn: impl Fn(u64, u64) -> u64) {
     let program = second::open(text).expect("the text is accepted");
-    let trace = records(&words(text, pool));
+    let trace = records(&words(text, drawn));
     let right = second::sheet(text, &trace);
     let mut range = vec![1; 64 * (TICKS + 4)];
     let length = proved(text, &trace, &mut range);
@@ -105,6 +115,31 @@ fn chain() -> (Vec<u8>, Vec<u64>) {
     (text.into_bytes(), (0..200).chain([255]).collect())
 }
 
+/// A bus that waits while HREADY is low: once it has, all of the address, and the data of a write that is under way, are as before up to the tick at which it is ready.
+const WAITING: &[u8] = b"input HREADY;
+input HTRANS[1:0];
+input HWRITE;
+input HSIZE[2:0];
+input HBURST[2:0];
+input HADDR[31:0];
+input HWDATA[17:0];
+define address_held = HTRANS == past(HTRANS) & HWRITE == past(HWRITE) & HSIZE == past(HSIZE) & HBURST == past(HBURST) & HADDR == past(HADDR);
+define data_held = HWDATA == past(HWDATA);
+address -> HREADY || !HREADY, (!HREADY & address_held)*, HREADY & address_held;
+written -> HREADY || !HREADY, (!HREADY & data_held)*, HREADY & data_held;
+data -> HREADY & HTRANS[1] & HWRITE @ written || HREADY & HTRANS[1] & !HWRITE || HREADY & !HTRANS[1] || !HREADY;
+monitor address, data;
+";
+
+/// Ready or not, with all else as before half of the time: bit 60 of the dice is above the wires.
+fn held_or_not(dice: u64, before: u64) -> u64 {
+    if dice >> 60 & 1 == 1 {
+        before & !1 | dice & 1
+    } else {
+        dice
+    }
+}
+
 /// A chain of `n` starred letters and one more: 3n + 1 rows. A word that meets the last letter asks every row at each tick; one that meets the first, whose star goes
 /// round, asks two.
 fn stars(n: usize) -> Vec<u8> {
@@ -130,16 +165,17 @@ fn linear() {
         }
         let asked = if last { 3 * n + 1 } else { 2 };
         let tick = best * 1e9 / TICKS as f64;
-        println!("(e) chain of {} rows, {asked} asked: {tick:.0} ns a tick, {:.2} ns a row asked", 3 * n + 1, tick / asked as f64);
+        println!("(f) chain of {} rows, {asked} asked: {tick:.0} ns a tick, {:.2} ns a row asked", 3 * n + 1, tick / asked as f64);
     }
 }
 
 fn main() {
-    compare("(a) sample", SAMPLE, &[]);
-    compare("(b) AHB slave of document 004", include_bytes!("../../../cases/ahb_slave_basic/rules.txt"), &[]);
+    compare("(a) sample", SAMPLE, any);
+    compare("(b) AHB slave of document 004", include_bytes!("../../../cases/ahb_slave_basic/rules.txt"), any);
     let (text, pool) = many();
-    compare("(c) many positions", &text, &pool);
+    compare("(c) many positions", &text, from(&pool));
     let (text, pool) = chain();
-    compare("(d) chain of stars", &text, &pool);
+    compare("(d) chain of stars", &text, from(&pool));
+    compare("(e) fields held while a bus waits", WAITING, held_or_not);
     linear();
 }

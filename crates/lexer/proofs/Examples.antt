@@ -4,12 +4,12 @@ use mathlib.Core.Path.{_≡_, refl}
 use mathlib.Core.List.{List, [], _∷_}
 use Prim.Native.String.{String}
 use Rattle.lexer.specs.Bytes.{bytes, run, same, lookup, isWhite, isDigit, isLetter}
-use Rattle.lexer.specs.Tokens.{Placed, name, word, number, sign, end, input, taken, untaken, knot, valueFrom, nameToken, numberToken, signToken, firstToken, nextToken, tokenAt, tokensFrom, tokensAt, tokens}
+use Rattle.lexer.specs.Tokens.{Placed, name, word, number, sign, end, input, ruleWords, taken, untaken, knot, valueFrom, nameToken, numberToken, signToken, firstToken, nextToken, tokenAt, tokensFrom, tokensAt, tokens}
 
 -- the tokens of a quoted text; what unfolds it computes them
 unfoldable pub tokensOf : String → List Placed
 unfolding tokensAt tokensFrom tokenAt nextToken firstToken nameToken numberToken signToken valueFrom run same lookup isWhite isDigit isLetter
-tokensOf text = tokens (bytes text)
+tokensOf text = tokens ruleWords (bytes text)
 
 -- a number, then a name
 number-then-name : tokensOf "12ab" ≡ taken 0 (number 12) 2 ∷ taken 2 (name (bytes "ab")) 2 ∷ untaken 4 end ∷ []
@@ -49,7 +49,12 @@ words-and-names : tokensOf "input inputs;\n" ≡ taken 0 (word input) 5 ∷ take
 unfolding tokensOf
 words-and-names = refl
 
+-- a word is a name where it is not reserved
+not-reserved : tokens (input ∷ []) (bytes "past") ≡ taken 0 (name (bytes "past")) 4 ∷ untaken 4 end ∷ []
+unfolding tokensAt tokensFrom tokenAt nextToken firstToken nameToken run same lookup isWhite isDigit isLetter
+not-reserved = refl
+
 -- past the end of the text it is the end, at the text's length
-past-the-end : tokenAt (bytes "ab") 7 ≡ untaken 2 end
+past-the-end : tokenAt ruleWords (bytes "ab") 7 ≡ untaken 2 end
 unfolding tokenAt nextToken firstToken run isWhite
 past-the-end = refl

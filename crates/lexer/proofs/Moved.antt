@@ -9,7 +9,7 @@ use native.Mathlib.Omega.{arith}
 use lib.ListN.{length, drop, length-append}
 use lib.Seq.{drop-append-add}
 use Rattle.lexer.specs.Bytes.{run, isWhite}
-use Rattle.lexer.specs.Tokens.{Token, Placed, taken, firstToken, nextToken, tokenAt, goesOn, tokensFrom, tokensAt}
+use Rattle.lexer.specs.Tokens.{Word, Token, Placed, taken, firstToken, nextToken, tokenAt, goesOn, tokensFrom, tokensAt}
 use Rattle.lexer.proofs.Names.{placed}
 use Rattle.lexer.proofs.Order.{from-step}
 use Rattle.lexer.proofs.View.{First, fits, large, short, long, double, single, nothing, first, unique}
@@ -21,49 +21,50 @@ moved d t = record { token = t .token; place = d + t .place; after = d + t .afte
 taken-moved : (d p : ℕ) (t : Placed) (k : Token) (n : ℕ) → t ≡ taken p k n → moved d t ≡ taken (d + p) k n
 taken-moved d p t k n e = ap (moved d) e ∙ placed refl refl (sym (add-assoc d p n))
 
-view-moved : (d p b : ℕ) (s : List ℕ) (t : Placed) → First p b s t → First (d + p) b s (moved d t)
-view-moved d p b s t (fits x v e) = fits x v (taken-moved d p t _ _ e)
-view-moved d p b s t (large x v e) = large x v (ap (moved d) e)
-view-moved d p b s t (short x l v e) = short x l v (taken-moved d p t _ _ e)
-view-moved d p b s t (long x l v e) = long x l v (ap (moved d) e)
-view-moved d p b s t (double x l n f e) = double x l n f (taken-moved d p t _ _ e)
-view-moved d p b s t (single x l f n g e) = single x l f n g (taken-moved d p t _ _ e)
-view-moved d p b s t (nothing x l f g e) = nothing x l f g (ap (moved d) e)
+module _ (R : List Word) where
+  view-moved : (d p b : ℕ) (s : List ℕ) (t : Placed) → First R p b s t → First R (d + p) b s (moved d t)
+  view-moved d p b s t (fits x v e) = fits x v (taken-moved d p t _ _ e)
+  view-moved d p b s t (large x v e) = large x v (ap (moved d) e)
+  view-moved d p b s t (short x l v e) = short x l v (taken-moved d p t _ _ e)
+  view-moved d p b s t (long x l v e) = long x l v (ap (moved d) e)
+  view-moved d p b s t (double x l n f e) = double x l n f (taken-moved d p t _ _ e)
+  view-moved d p b s t (single x l f n g e) = single x l f n g (taken-moved d p t _ _ e)
+  view-moved d p b s t (nothing x l f g e) = nothing x l f g (ap (moved d) e)
 
-first-moved : (d p : ℕ) (s : List ℕ) → firstToken (d + p) s ≡ moved d (firstToken p s)
-unfolding firstToken
-first-moved d p [] = refl
-first-moved d p (b ∷ s) = sym (unique (d + p) b s _ (view-moved d p b s _ (first p b s)))
+  first-moved : (d p : ℕ) (s : List ℕ) → firstToken R (d + p) s ≡ moved d (firstToken R p s)
+  unfolding firstToken
+  first-moved d p [] = refl
+  first-moved d p (b ∷ s) = sym (unique R (d + p) b s _ (view-moved d p b s _ (first R p b s)))
 
-pub next-moved : (d p : ℕ) (s : List ℕ) → nextToken (d + p) s ≡ moved d (nextToken p s)
-unfolding nextToken
-next-moved d p s =
-    ap (λ (m : ℕ). firstToken m (drop (length (run isWhite s)) s)) (add-assoc d p (length (run isWhite s)))
-    ∙ first-moved d (p + length (run isWhite s)) (drop (length (run isWhite s)) s)
+  pub next-moved : (d p : ℕ) (s : List ℕ) → nextToken R (d + p) s ≡ moved d (nextToken R p s)
+  unfolding nextToken
+  next-moved d p s =
+      ap (λ (m : ℕ). firstToken R m (drop (length (run isWhite s)) s)) (add-assoc d p (length (run isWhite s)))
+      ∙ first-moved d (p + length (run isWhite s)) (drop (length (run isWhite s)) s)
 
--- NO BYTE BEFORE. The token at a position of the text s, read in a text where other bytes x stand before s.
-pub token-moved : (x s : List ℕ) (at : ℕ) → tokenAt (x ++ s) (length x + at) ≡ moved (length x) (tokenAt s at)
-unfolding tokenAt
-token-moved x s at =
-    ap₂ nextToken (omega (arith, length-append x s)) (drop-append-add x s at)
-    ∙ next-moved (length x) (min at (length s)) (drop at s)
+  -- NO BYTE BEFORE. The token at a position of the text s, read in a text where other bytes x stand before s.
+  pub token-moved : (x s : List ℕ) (at : ℕ) → tokenAt R (x ++ s) (length x + at) ≡ moved (length x) (tokenAt R s at)
+  unfolding tokenAt
+  token-moved x s at =
+      ap₂ (nextToken R) (omega (arith, length-append x s)) (drop-append-add x s at)
+      ∙ next-moved (length x) (min at (length s)) (drop at s)
 
-from-moved : (k : ℕ) (x s : List ℕ) (at : ℕ) → tokensFrom k (x ++ s) (length x + at) ≡ map (moved (length x)) (tokensFrom k s at)
-unfolding tokensFrom
-from-moved zero x s at = refl
-from-moved (suc k) x s at =
-    from-step k (x ++ s) (length x + at)
-    ∙ ap (λ (t : Placed). t ∷ cond (goesOn (t .token)) (tokensFrom k (x ++ s) (t .after)) []) (token-moved x s at)
-    ∙ ap (λ (l : List Placed). moved (length x) (tokenAt s at) ∷ l) (go (goesOn (tokenAt s at .token)) (from-moved k x s (tokenAt s at .after)))
-    ∙ ap (map (moved (length x))) (sym (from-step k s at))
-  where
-    go : (t : Bool) → tokensFrom k (x ++ s) (length x + tokenAt s at .after) ≡ map (moved (length x)) (tokensFrom k s (tokenAt s at .after))
-        → cond t (tokensFrom k (x ++ s) (length x + tokenAt s at .after)) [] ≡ map (moved (length x)) (cond t (tokensFrom k s (tokenAt s at .after)) [])
-    go true e = e
-    go false e = refl
+  from-moved : (k : ℕ) (x s : List ℕ) (at : ℕ) → tokensFrom R k (x ++ s) (length x + at) ≡ map (moved (length x)) (tokensFrom R k s at)
+  unfolding tokensFrom
+  from-moved zero x s at = refl
+  from-moved (suc k) x s at =
+      from-step R k (x ++ s) (length x + at)
+      ∙ ap (λ (t : Placed). t ∷ cond (goesOn (t .token)) (tokensFrom R k (x ++ s) (t .after)) []) (token-moved x s at)
+      ∙ ap (λ (l : List Placed). moved (length x) (tokenAt R s at) ∷ l) (go (goesOn (tokenAt R s at .token)) (from-moved k x s (tokenAt R s at .after)))
+      ∙ ap (map (moved (length x))) (sym (from-step R k s at))
+    where
+      go : (t : Bool) → tokensFrom R k (x ++ s) (length x + tokenAt R s at .after) ≡ map (moved (length x)) (tokensFrom R k s (tokenAt R s at .after))
+          → cond t (tokensFrom R k (x ++ s) (length x + tokenAt R s at .after)) [] ≡ map (moved (length x)) (cond t (tokensFrom R k s (tokenAt R s at .after)) [])
+      go true e = e
+      go false e = refl
 
-pub tokens-moved : (x s : List ℕ) (at : ℕ) → tokensAt (x ++ s) (length x + at) ≡ map (moved (length x)) (tokensAt s at)
-unfolding tokensAt
-tokens-moved x s at =
-    ap (λ (k : ℕ). tokensFrom (suc k) (x ++ s) (length x + at)) (omega (arith, length-append x s))
-    ∙ from-moved (suc (length s - at)) x s at
+  pub tokens-moved : (x s : List ℕ) (at : ℕ) → tokensAt R (x ++ s) (length x + at) ≡ map (moved (length x)) (tokensAt R s at)
+  unfolding tokensAt
+  tokens-moved x s at =
+      ap (λ (k : ℕ). tokensFrom R (suc k) (x ++ s) (length x + at)) (omega (arith, length-append x s))
+      ∙ from-moved (suc (length s - at)) x s at

@@ -2,6 +2,7 @@
 pub mod Bytes
 pub mod Signs
 pub mod Tokens
--- The class of each byte (T8), and what the answers of the token reader used by itself stand for (T10): to be believed of that reader alone, since no demand mentions them.
-pub mod Classes
+-- What the list of reserved words given to the token reader, and its answers, stand for (T4, T10): to be believed where that reader is used by itself.
 pub mod Shown
+-- The class of each byte (T8), which its own contract ties to `Bytes`.
+pub mod Classes

@@ -1,12 +1,14 @@
--- What the code's answers stand for, in the terms of `Tokens` (docs/REFERENCE.md, T10).
+-- What the code's answers, and the list of reserved words that it is given, stand for in the terms of `Tokens` (docs/REFERENCE.md, T4 and T10).
 -- Assumes nothing.
 use Prim.Native.Nat.{ℕ, _-_}
-use mathlib.Core.List.{List}
+use mathlib.Core.Bool.{Bool, cond}
+use mathlib.Core.List.{List, [], _∷_}
 use lib.ListN.{take, drop}
 use Rattle.refusals.specs.Numbers as refusal
 use Rattle.lexer.specs.Tokens as tokens
 use Rattle.lexer.specs.declared.Word.{Word}
-use Rattle.lexer.specs.declared.Word.the-variants.{Input, Internal, Define, Monitor}
+use Rattle.lexer.specs.declared.Word.the-variants.{Input, Internal, Define, Monitor, Past}
+use Rattle.lexer.specs.declared.Reserved.{Reserved}
 use Rattle.lexer.specs.declared.Kind.{Kind}
 use Rattle.lexer.specs.declared.Kind.the-variants as kind
 use Rattle.lexer.specs.declared.Token.{Token}
@@ -17,6 +19,20 @@ wordShown Input = tokens.input
 wordShown Internal = tokens.internal
 wordShown Define = tokens.define
 wordShown Monitor = tokens.monitor
+wordShown Past = tokens.past
+
+-- T4: a word, if it is reserved, before those of a list
+abbrev pub withWord : Bool → tokens.Word → List tokens.Word → List tokens.Word
+withWord reserved w ws = cond reserved (w ∷ ws) ws
+
+-- T4: the list that reading is given, as a flag for each word
+abbrev pub reservedShown : Reserved → List tokens.Word
+reservedShown r =
+    withWord (r .input) tokens.input
+    (withWord (r .internal) tokens.internal
+    (withWord (r .define) tokens.define
+    (withWord (r .monitor) tokens.monitor
+    (withWord (r .past) tokens.past []))))
 
 -- of a token whose bytes are s; T7: "Knot, refusal 2"
 abbrev pub kindShown : List ℕ → Kind → tokens.Token

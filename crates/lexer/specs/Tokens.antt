@@ -1,5 +1,7 @@
--- The tokens of a rule text (docs/REFERENCE.md, T2 to T7 and T9 to T11): what stands at a place, and the list of all.
+-- The tokens of a text in which the words of the list R are reserved (docs/REFERENCE.md, T2 to T7 and T9 to T11): what
+-- stands at a place, and the list of all.
 -- Assumes nothing.
+use Prim.Native.String.{String}
 use Prim.Native.Nat.{ℕ, zero, suc, _+_, _-_, _*_, _^_, min}
 use mathlib.Core.Bool.{Bool, true, false, cond}
 use mathlib.Core.List.{List, [], _∷_}
@@ -10,13 +12,26 @@ use Rattle.refusals.specs.Numbers as refusal
 use Rattle.lexer.specs.Signs.{signs}
 use Rattle.lexer.specs.Bytes.{Entry, _means_, lookup, run, isWhite, isDigit, isLetter, isNameByte}
 
--- T4: "A name that is spelled exactly `input`, `internal`, `define` or `monitor` is a reserved word"
+-- T4: "Five words can be reserved: `input`, `internal`, `define`, `monitor` and `past`."
 pub data Word : Type 0 where
-  input internal define monitor : Word
+  input internal define monitor past : Word
 
--- T4: their spellings
-abbrev pub words : List (Entry Word)
-words = ("input" means input) ∷ ("internal" means internal) ∷ ("define" means define) ∷ ("monitor" means monitor) ∷ []
+-- T4: how each is spelled
+abbrev pub spelling : Word → String
+spelling input = "input"
+spelling internal = "internal"
+spelling define = "define"
+spelling monitor = "monitor"
+spelling past = "past"
+
+-- T4: "A list that reading is given says which of them are": the words of a list with their spellings
+abbrev pub entries : List Word → List (Entry Word)
+entries [] = []
+entries (w ∷ ws) = (spelling w means w) ∷ entries ws
+
+-- T4: "A rule text reserves all five."
+abbrev pub ruleWords : List Word
+ruleWords = input ∷ internal ∷ define ∷ monitor ∷ past ∷ []
 
 -- What stands at a place: a token, the end of the text, or a refusal's number (X1).
 pub data Token : Type 0 where
@@ -46,14 +61,14 @@ untaken p t = record { token = t; place = p; after = p }
 abbrev pub knot : ℕ → Placed
 knot p = untaken p (refused refusal.knot)
 
--- T4: a name, unless it is a reserved word
+-- T4: "a name that is spelled exactly like a word of the list is a reserved word, and never a name"
 abbrev pub orName : List ℕ → Option Word → Token
 orName s (some w) = word w
 orName s none = name s
 
 -- T3: "It may have 16 bytes."
-unfoldable pub nameToken : ℕ → List ℕ → Placed
-nameToken p s = cond (leb (length s) 16) (taken p (orName s (lookup s words)) (length s)) (knot p)
+unfoldable pub nameToken : List Word → ℕ → List ℕ → Placed
+nameToken R p s = cond (leb (length s) 16) (taken p (orName s (lookup s (entries R))) (length s)) (knot p)
 
 -- T5: "read in decimal": the value of digits that follow on the value v; 48 is the byte of 0
 unfoldable pub valueFrom : ℕ → List ℕ → ℕ
@@ -80,20 +95,20 @@ signToken p s =
 -- what stands first in the text s, whose first byte is not white space and has the place p;
 -- T9: "Behind the last token stands the end."; T5: "A digit begins a number", T3: "begins a name", else a sign or a
 -- knot
-unfoldable pub firstToken : ℕ → List ℕ → Placed
-firstToken p [] = untaken p end
-firstToken p (b ∷ s) =
+unfoldable pub firstToken : List Word → ℕ → List ℕ → Placed
+firstToken R p [] = untaken p end
+firstToken R p (b ∷ s) =
     cond (isDigit b) (numberToken p (run isDigit (b ∷ s)))
-    (cond (isLetter b) (nameToken p (run isNameByte (b ∷ s)))
+    (cond (isLetter b) (nameToken R p (run isNameByte (b ∷ s)))
     (signToken p (b ∷ s)))
 
 -- what stands first in the text s, which begins at the place p; T10: "It skips white space from the position on"
-unfoldable pub nextToken : ℕ → List ℕ → Placed
-nextToken p s = let n = length (run isWhite s) in firstToken (p + n) (drop n s)
+unfoldable pub nextToken : List Word → ℕ → List ℕ → Placed
+nextToken R p s = let n = length (run isWhite s) in firstToken R (p + n) (drop n s)
 
 -- T10: "For a position beyond the text's length it answers with the end." T9: "Its place is the length of the text".
-unfoldable pub tokenAt : List ℕ → ℕ → Placed
-tokenAt s at = nextToken (min at (length s)) (drop at s)
+unfoldable pub tokenAt : List Word → List ℕ → ℕ → Placed
+tokenAt R s at = nextToken R (min at (length s)) (drop at s)
 
 -- T11: nothing is read after the end or a knot
 abbrev pub goesOn : Token → Bool
@@ -105,16 +120,16 @@ goesOn end = false
 goesOn (refused n) = false
 
 -- the first k tokens from a position on
-unfoldable pub tokensFrom : ℕ → List ℕ → ℕ → List Placed
-tokensFrom zero s at = []
-tokensFrom (suc k) s at =
-    let t = tokenAt s at in
-    t ∷ elim (goesOn (t .token)) [ true ↦ tokensFrom k s (t .after) | false ↦ [] ]
+unfoldable pub tokensFrom : List Word → ℕ → List ℕ → ℕ → List Placed
+tokensFrom R zero s at = []
+tokensFrom R (suc k) s at =
+    let t = tokenAt R s at in
+    t ∷ elim (goesOn (t .token)) [ true ↦ tokensFrom R k s (t .after) | false ↦ [] ]
 
 -- The tokens from a position on, the last of which is the end or a knot. A token takes a byte at least.
-unfoldable pub tokensAt : List ℕ → ℕ → List Placed
-tokensAt s at = tokensFrom (suc (length s - at)) s at
+unfoldable pub tokensAt : List Word → List ℕ → ℕ → List Placed
+tokensAt R s at = tokensFrom R (suc (length s - at)) s at
 
 -- T11: "the tokens of a text are listed up to its end or its first knot"
-abbrev pub tokens : List ℕ → List Placed
-tokens s = tokensAt s 0
+abbrev pub tokens : List Word → List ℕ → List Placed
+tokens R s = tokensAt R s 0

@@ -1,13 +1,14 @@
-// The tokens of a rule text (docs/REFERENCE.md, T). `token_at` reads the token at a position of a text.
+// The tokens of a text (docs/REFERENCE.md, T). `token_at` reads the token at a position of a text in which some words are reserved.
 // What a token is stands in specs/Tokens.antt, and specs/Shown.antt says what the types here stand for in its terms.
 ghost use mathlib.Core.Path.{_≡_};
+ghost use mathlib.Core.Bool.{_&&_};
 ghost use Prim.Native.Nat.{ℕ, _+_, _<_, _≤_};
 ghost use mathlib.Core.List.{List};
 ghost use lib.ListN.{length, getD, drop};
 ghost use Rattle.lexer.specs.Bytes.{same, lookup, run, isDigit, isNameByte};
 ghost use Rattle.lexer.specs.Classes.{Listed, begins, classOf, inClasses};
-ghost use Rattle.lexer.specs.Tokens.{words, orName, knot, nameToken, numberToken, signToken, tokenAt};
-ghost use Rattle.lexer.specs.Shown.{kindShown, shown};
+ghost use Rattle.lexer.specs.Tokens.{entries, ruleWords, orName, knot, nameToken, numberToken, signToken, tokenAt};
+ghost use Rattle.lexer.specs.Shown.{reservedShown, kindShown, shown};
 
 mod classes;
 
@@ -55,12 +56,35 @@ pub const RIGHT_ARROW: u8 = 16;
 
 pub const LEFT_ARROW: u8 = 17;
 
-// The reserved words.
+// The words that can be reserved.
 pub enum Word {
     Input,
     Internal,
     Define,
     Monitor,
+    Past,
+}
+
+// The list of reserved words that reading is given: those whose flag is set.
+pub struct Reserved {
+    pub input: bool,
+    pub internal: bool,
+    pub define: bool,
+    pub monitor: bool,
+    pub past: bool,
+}
+
+// What a rule text reserves.
+pub fn rule_words() -> Reserved
+    ensures { λ r. ⌜ reservedShown r ≡ ruleWords ⌝ }
+{
+    Reserved {
+        input: true,
+        internal: true,
+        define: true,
+        monitor: true,
+        past: true,
+    }
 }
 
 pub enum Kind {
@@ -127,21 +151,34 @@ pub fn equal(a: &[u8], b: &[u8]) -> bool
     true
 }
 
-// Which reserved word the bytes are, or a name.
-fn name_kind(name: &[u8]) -> Kind
-    ensures { λ r. ⌜ kindShown (now (name .entry)) r ≡ orName (now (name .entry)) (lookup (now (name .entry)) words) ⌝ }
+// Whether a word is reserved and `name` spells it.
+fn is_word(reserved: bool, spelling: &[u8], name: &[u8]) -> bool
+    ensures { λ r. ⌜ r ≡ (reserved && same (now (name .entry)) (now (spelling .entry))) ⌝ }
 {
-    if equal(name, b"input") {
+    if !reserved {
+        return false;
+    }
+    equal(name, spelling)
+}
+
+// Which reserved word the bytes are, or a name.
+fn name_kind(reserved: Reserved, name: &[u8]) -> Kind
+    ensures { λ r. ⌜ kindShown (now (name .entry)) r ≡ orName (now (name .entry)) (lookup (now (name .entry)) (entries (reservedShown reserved))) ⌝ }
+{
+    if is_word(reserved.input, b"input", name) {
         return Kind::Word(Word::Input);
     }
-    if equal(name, b"internal") {
+    if is_word(reserved.internal, b"internal", name) {
         return Kind::Word(Word::Internal);
     }
-    if equal(name, b"define") {
+    if is_word(reserved.define, b"define", name) {
         return Kind::Word(Word::Define);
     }
-    if equal(name, b"monitor") {
+    if is_word(reserved.monitor, b"monitor", name) {
         return Kind::Word(Word::Monitor);
+    }
+    if is_word(reserved.past, b"past", name) {
+        return Kind::Word(Word::Past);
     }
     Kind::Name
 }
@@ -158,10 +195,10 @@ fn knot_at(place: usize) -> Token
 }
 
 // The name or the reserved word at `place`.
-fn name_at(table: &[u8; 256], text: &[u8], place: usize) -> Token
+fn name_at(reserved: Reserved, table: &[u8; 256], text: &[u8], place: usize) -> Token
     requires { ⌜ Listed (now table) ⌝ }
     requires { ⌜ place ≤ length (now text) ⌝ }
-    ensures { λ r. ⌜ shown (now (text .entry)) r ≡ nameToken place (run isNameByte (drop place (now (text .entry)))) ⌝ }
+    ensures { λ r. ⌜ shown (now (text .entry)) r ≡ nameToken (reservedShown reserved) place (run isNameByte (drop place (now (text .entry)))) ⌝ }
 {
     let after = run_end(table, text, place, DIGIT, LETTER);
     if LONGEST_NAME < after - place {
@@ -169,7 +206,7 @@ fn name_at(table: &[u8; 256], text: &[u8], place: usize) -> Token
     }
     let name = &text[place..after];
     Token {
-        kind: name_kind(name),
+        kind: name_kind(reserved, name),
         place,
         after,
     }
@@ -252,9 +289,9 @@ fn sign_at(text: &[u8], place: usize, class: u8) -> Token
 }
 
 // The token at a position of a text, after white space, by a table that lists the classes. Past the end it is the end, at the text's length.
-fn token_by(table: &[u8; 256], text: &[u8], at: usize) -> Token
+fn token_by(reserved: Reserved, table: &[u8; 256], text: &[u8], at: usize) -> Token
     requires { ⌜ Listed (now table) ⌝ }
-    ensures { λ r. ⌜ shown (now (text .entry)) r ≡ tokenAt (now (text .entry)) at ⌝ }
+    ensures { λ r. ⌜ shown (now (text .entry)) r ≡ tokenAt (reservedShown reserved) (now (text .entry)) at ⌝ }
 {
     let place = run_end(table, text, at, WHITE, WHITE);
     if text.len() <= place {
@@ -269,15 +306,15 @@ fn token_by(table: &[u8; 256], text: &[u8], at: usize) -> Token
         return number_at(table, text, place);
     }
     if class == LETTER {
-        return name_at(table, text, place);
+        return name_at(reserved, table, text, place);
     }
     sign_at(text, place, class)
 }
 
-// The token at a position of a text.
-pub fn token_at(text: &[u8], at: usize) -> Token
-    ensures { λ r. ⌜ shown (now (text .entry)) r ≡ tokenAt (now (text .entry)) at ⌝ }
+// The token at a position of a text in which these words are reserved.
+pub fn token_at(reserved: Reserved, text: &[u8], at: usize) -> Token
+    ensures { λ r. ⌜ shown (now (text .entry)) r ≡ tokenAt (reservedShown reserved) (now (text .entry)) at ⌝ }
 {
     let table = class_table();
-    token_by(&table, text, at)
+    token_by(reserved, &table, text, at)
 }

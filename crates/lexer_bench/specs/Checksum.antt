@@ -4,13 +4,14 @@ use mathlib.Core.List.{List, [], _∷_}
 use Prim.Native.Nat.{ℕ, _+_, _%_, _^_}
 use Rattle.lexer.specs.declared.Token as Code
 use Rattle.lexer.specs.Shown.{kindShown}
-use Rattle.lexer.specs.Tokens.{Word, input, internal, define, monitor, Token, name, word, number, sign, end, refused, Placed}
+use Rattle.lexer.specs.Tokens.{Word, input, internal, define, monitor, past, Token, name, word, number, sign, end, refused, Placed}
 
 abbrev pub wordWeight : Word → ℕ
 wordWeight input = 2
 wordWeight internal = 3
 wordWeight define = 4
 wordWeight monitor = 5
+wordWeight past = 8
 
 abbrev pub weight : Token → ℕ
 weight (name s) = 1

@@ -5,6 +5,7 @@ ghost use lib.ListN.{length};
 use lexer::Kind;
 use lexer::Token;
 use lexer::Word;
+use lexer::rule_words;
 use lexer::token_at;
 use libc::STDIN_FILENO;
 use libc::STDOUT_FILENO;
@@ -25,6 +26,7 @@ fn print_word(w: Word) {
         Word::Internal => print(b"internal"),
         Word::Define => print(b"define"),
         Word::Monitor => print(b"monitor"),
+        Word::Past => print(b"past"),
     }
 }
 
@@ -68,7 +70,7 @@ fn print_tokens(text: &[u8]) {
     let mut at = 0;
     let mut turns = 0;
     while turns <= text.len() {
-        let t = token_at(text, at);
+        let t = token_at(rule_words(), text, at);
         let k = t.kind;
         print_places(t);
         print(b" ");
@@ -87,11 +89,11 @@ fn print_positions(text: &[u8]) {
     let mut at = 0;
     while at <= text.len() {
         print(b"  ");
-        print_places(token_at(text, at));
+        print_places(token_at(rule_words(), text, at));
         at += 1;
     }
     print(b"  ");
-    print_places(token_at(text, at));
+    print_places(token_at(rule_words(), text, at));
 }
 
 // Where the text ends that begins at `from`.

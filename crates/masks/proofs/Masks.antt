@@ -8,18 +8,18 @@ use Prim.Native.Nat.{ℕ, _+_, _*_, _-_, _/_, _%_, _^_, _≤_, _<_}
 use native.Mathlib.Omega.{arith}
 use native.Mathlib.Nat.{add-comm, mod-lt, lt-of-lt-of-le, mod-eq-of-lt}
 use native.Mathlib.Decide.{decLt}
-use lib.Dec.{T, eqb, leb, ltb, eqb-refl, leb→le, ltb→lt}
+use lib.Dec.{T, eqb, leb, ltb, eqb-refl, eqb→eq, leb→le, ltb→lt}
 use lib.Bits.{bitAnd, bitOr, or-lt, or-comm, or-zero-l}
 use lib.Pow.{pow-pos, pow-mono, shl-shr, shl-lt, ones-lt}
 use borrow.Author.Tests.{le-leb, lt-leb, lt-ltb, le-ltb}
 use Rattle.meaning.specs.Lists.{_∈_, any, all}
-use Rattle.meaning.specs.Expression.{Literal, wire, wire-store, store, field, bit}
+use Rattle.meaning.specs.Expression.{Literal, wire, wire-store, wire-past, store, field, bit}
 use Rattle.meaning.specs.Shape.{wireHolds}
 use Rattle.meaning.specs.ShapeTests.{asks, agree, Sized, AllSized}
 use Rattle.meaning.proofs.ListLaws.{here, there, cons-∈, no-∈, append-∈, ∈-left, ∈-right, and-T, T-and, all-at, all-from, any-from, any-to, same-truth, clash}
 use Rattle.meaning.proofs.Bits.{agree-if, all-append, met-if, bit-field, same-bits, asked-bit, digit-is, asks-own, in-below}
 use Rattle.masks.specs.Wires.{passes}
-use Rattle.masks.specs.Masks.{lookOf, wantOf, look, want, compatible}
+use Rattle.masks.specs.Masks.{lookOf, wantOf, heldOf, look, want, held, compatible}
 use Rattle.masks.proofs.BitLaws.{bit-and, bit-or, bit-lt, bit-below, bit-above, bit-over, bit-ones, zero-bit, Bit, off, on, bit-is}
 use Rattle.masks.proofs.ByWires.{passes-then, passes-if, unasked}
 
@@ -44,6 +44,21 @@ compatible-apart a b c d e = ap (λ (n : ℕ). passes n d b) e ∙ unasked d b
 
 -- ---- the masks of literals, bit by bit
 
+-- one mask of each literal, all joined: a bit of it is one of a literal's
+module _ (one : Literal → ℕ) (mask : List Literal → ℕ) (none : mask [] ≡ 0) (some : (l : Literal) (ls : List Literal) → mask (l ∷ ls) ≡ bitOr (one l) (mask ls)) where
+  mask-some : (i : ℕ) (ls : List Literal) → bit i (mask ls) ≡ 1 → (l : Literal) × (l ∈ ls) × (bit i (one l) ≡ 1)
+  mask-some i [] h = clash (sym (zero-bit i) ∙ ap (bit i) (sym none) ∙ h)
+  mask-some i (l ∷ ls) h =
+      ⊎-elim (λ e. (l, here refl, e)) (λ e. let (x, j, t) = mask-some i ls e in (x, there j, t))
+      (or-cases (bit-is i (one l)) (bit-is i (mask ls)) (sym (bit-or i (one l) (mask ls)) ∙ ap (bit i) (sym (some l ls)) ∙ h))
+
+  mask-at : (i : ℕ) (ls : List Literal) (l : Literal) → l ∈ ls → bit i (one l) ≡ 1 → bit i (mask ls) ≡ 1
+  mask-at i [] l j h = absurd (no-∈ j)
+  mask-at i (x ∷ ls) l j h =
+      ap (bit i) (some x ls) ∙ bit-or i (one x) (mask ls)
+      ∙ ⊎-elim (λ e. or-left (bit-is i (mask ls)) (ap (λ y. bit i (one y)) (sym e) ∙ h))
+      (λ k. or-right (bit-is i (one x)) (mask-at i ls l k h)) (cons-∈ j)
+
 -- i lies in a field, by its distance from the lowest bit
 in-field : (i lo width : ℕ) → (i < lo) ⊎ ((j : ℕ) × (i ≡ lo + j) × ((j < width) ⊎ (width ≤ j)))
 in-field i lo width = elim (decLt i lo) [ yes l ↦ inl l | no g ↦ inr (i - lo, omega arith, above (i - lo)) ]
@@ -51,18 +66,25 @@ in-field i lo width = elim (decLt i lo) [ yes l ↦ inl l | no g ↦ inr (i - lo
     above : (j : ℕ) → (j < width) ⊎ (width ≤ j)
     above j = elim (decLt j width) [ yes l ↦ inl l | no g ↦ inr (omega arith) ]
 
+-- the bits of a field's mask are those of the field
+in-mask : (i lo width : ℕ) → bit i ((2 ^ width - 1) * 2 ^ lo) ≡ 1 → (j : ℕ) × (i ≡ lo + j) × (j < width)
+in-mask i lo width h =
+    ⊎-elim (λ l. clash (sym (bit-below i lo (2 ^ width - 1) l) ∙ h))
+    (λ (j, e, c). ⊎-elim (λ l. (j, e, l))
+    (λ l. clash (sym (bit-over j width (2 ^ width - 1) (ones-lt width) l) ∙ sym (bit-above j lo (2 ^ width - 1)) ∙ ap (λ (k : ℕ). bit k ((2 ^ width - 1) * 2 ^ lo)) (sym e) ∙ h)) c)
+    (in-field i lo width)
+
+mask-own : (lo width j : ℕ) → j < width → bit (lo + j) ((2 ^ width - 1) * 2 ^ lo) ≡ 1
+mask-own lo width j h = bit-above j lo (2 ^ width - 1) ∙ bit-ones j width h
+
 -- a literal looks at a wire exactly where it asks for one of the two values there
 asks-some : (i : ℕ) (l : Literal) → bit i (lookOf l) ≡ 1 → (b : ℕ) × (b < 2) × T (asks i b l)
 asks-some i (wire lo width v) h =
-    ⊎-elim (λ l. clash (sym (bit-below i lo (2 ^ width - 1) l) ∙ h))
-    (λ (j, e, c). ⊎-elim (λ l. (bit j v, bit-lt j v, subst (λ (k : ℕ). T (asks k (bit j v) (wire lo width v))) (sym e) (asks-own lo width v j l)))
-    (λ l. clash (sym (bit-over j width (2 ^ width - 1) (ones-lt width) l) ∙ sym (bit-above j lo (2 ^ width - 1)) ∙ ap (λ (k : ℕ). bit k ((2 ^ width - 1) * 2 ^ lo)) (sym e) ∙ h)) c)
-    (in-field i lo width)
+    let (j, e, l) = in-mask i lo width h in
+    (bit j v, bit-lt j v, subst (λ (k : ℕ). T (asks k (bit j v) (wire lo width v))) (sym e) (asks-own lo width v j l))
 asks-some i (wire-store lo width s) h = clash (sym (zero-bit i) ∙ h)
+asks-some i (wire-past lo width) h = clash (sym (zero-bit i) ∙ h)
 asks-some i (store s v) h = clash (sym (zero-bit i) ∙ h)
-
-looks-own : (lo width v j : ℕ) → j < width → bit (lo + j) (lookOf (wire lo width v)) ≡ 1
-looks-own lo width v j h = bit-above j lo (2 ^ width - 1) ∙ bit-ones j width h
 
 as-digit : {x : ℕ} → Bit x → cond (eqb x 1) 1 0 ≡ x
 as-digit off = refl
@@ -79,6 +101,7 @@ wants-one i (wire lo width v) (fits, within) =
     (λ l. bit-over j width v fits l ∙ sym (rw (le-leb lo (lo + j) (omega arith), le-ltb (lo + j) (lo + width) (omega arith)))) c))
     (in-field i lo width)
 wants-one i (wire-store lo width s) z = zero-bit i
+wants-one i (wire-past lo width) z = zero-bit i
 wants-one i (store s v) z = zero-bit i
 
 or-digits : (a b : Bool) → bitOr (cond a 1 0) (cond b 1 0) ≡ cond (a || b) 1 0
@@ -96,19 +119,14 @@ want-bit i (l ∷ ls) sized =
 
 look-some : (i : ℕ) (ls : List Literal) → bit i (look ls) ≡ 1 → (b : ℕ) × (b < 2) × (l : Literal) × (l ∈ ls) × T (asks i b l)
 unfolding look
-look-some i [] h = clash (sym (zero-bit i) ∙ h)
-look-some i (l ∷ ls) h =
-    ⊎-elim (λ e. let (b, d, t) = asks-some i l e in (b, d, l, here refl, t))
-    (λ e. let (b, d, x, j, t) = look-some i ls e in (b, d, x, there j, t))
-    (or-cases (bit-is i (lookOf l)) (bit-is i (look ls)) (sym (bit-or i (lookOf l) (look ls)) ∙ h))
+look-some i ls h =
+    let (l, j, e) = mask-some lookOf look refl (λ l ls. refl) i ls h in
+    let (b, d, t) = asks-some i l e in
+    (b, d, l, j, t)
 
 look-at : (i : ℕ) (ls : List Literal) (l : Literal) → l ∈ ls → bit i (lookOf l) ≡ 1 → bit i (look ls) ≡ 1
 unfolding look
-look-at i [] l j h = absurd (no-∈ j)
-look-at i (x ∷ ls) l j h =
-    bit-or i (lookOf x) (look ls)
-    ∙ ⊎-elim (λ e. or-left (bit-is i (look ls)) (ap (λ y. bit i (lookOf y)) (sym e) ∙ h))
-    (λ k. or-right (bit-is i (lookOf x)) (look-at i ls l k h)) (cons-∈ j)
+look-at = mask-at lookOf look refl (λ l ls. refl)
 
 -- ---- literals that agree
 
@@ -136,11 +154,50 @@ module _ (ls : List Literal) (sized : AllSized ls) (agreed : T (agree ls)) where
           subst (λ (z : ℕ). T (eqb (field lo width w) z))
           (same-bits width (field lo width w) v (mod-lt (w / 2 ^ lo) (pow-pos width)) p (λ k l.
           bit-field lo width w k l
-          ∙ passes-then (look ls) (want ls) w h (lo + k) (omega arith) (look-at (lo + k) ls (wire lo width v) j (looks-own lo width v k l))
+          ∙ passes-then (look ls) (want ls) w h (lo + k) (omega arith) (look-at (lo + k) ls (wire lo width v) j (mask-own lo width k l))
           ∙ asked-wanted (lo + k) (bit k v) (wire lo width v) (omega arith) (bit-lt k v) j (asks-own lo width v k l)))
           (eqb-refl (field lo width w))
       one (wire-store lo width s) j z = tt
+      one (wire-past lo width) j z = tt
       one (store s v) j z = tt
+
+-- ---- the word before
+
+-- the literal asks nothing of the word before, or its field is the same in both
+abbrev pub pastHolds : (before word : ℕ) → Literal → Bool
+pastHolds b w (wire lo width v) = true
+pastHolds b w (wire-store lo width s) = true
+pastHolds b w (wire-past lo width) = eqb (field lo width w) (field lo width b)
+pastHolds b w (store s v) = true
+
+-- A word that passes the mask of the wires held, with the word before as what is wanted, has the same fields; and the other way round.
+pub held-exactly : (ls : List Literal) → AllSized ls → (b w : ℕ) → passes (held ls) b w ≡ all (pastHolds b w) ls
+unfolding held
+held-exactly ls sized b w =
+    same-truth (passes (held ls) b w) (all (pastHolds b w) ls)
+    (λ t. all-from (pastHolds b w) ls (λ l j. kept t l j (sized l j)))
+    (λ t. passes-if (held ls) b w (λ i h e. let (l, j, f) = mask-some heldOf held refl (λ l ls. refl) i ls e in same-bit i l f (all-at (pastHolds b w) j t)))
+  where
+    kept : T (passes (held ls) b w) → (l : Literal) → l ∈ ls → Sized l → T (pastHolds b w l)
+    kept t (wire lo width v) j z = tt
+    kept t (wire-store lo width s) j z = tt
+    kept t (wire-past lo width) j z =
+        subst (λ (x : ℕ). T (eqb (field lo width w) x))
+        (same-bits width (field lo width w) (field lo width b) (mod-lt (w / 2 ^ lo) (pow-pos width)) (mod-lt (b / 2 ^ lo) (pow-pos width)) (λ k l.
+        bit-field lo width w k l
+        ∙ passes-then (held ls) b w t (lo + k) (omega arith) (mask-at heldOf held refl (λ l ls. refl) (lo + k) ls (wire-past lo width) j (mask-own lo width k l))
+        ∙ sym (bit-field lo width b k l)))
+        (eqb-refl (field lo width w))
+    kept t (store s v) j z = tt
+
+    same-bit : (i : ℕ) (l : Literal) → bit i (heldOf l) ≡ 1 → T (pastHolds b w l) → bit i w ≡ bit i b
+    same-bit i (wire lo width v) f t = clash (sym (zero-bit i) ∙ f)
+    same-bit i (wire-store lo width s) f t = clash (sym (zero-bit i) ∙ f)
+    same-bit i (wire-past lo width) f t =
+        let (k, e, l) = in-mask i lo width f in
+        ap (λ (x : ℕ). bit x w) e ∙ sym (bit-field lo width w k l) ∙ ap (bit k) (eqb→eq (field lo width w) (field lo width b) t) ∙ bit-field lo width b k l
+        ∙ ap (λ (x : ℕ). bit x b) (sym e)
+    same-bit i (store s v) f t = clash (sym (zero-bit i) ∙ f)
 
 -- ---- two lists of literals
 
@@ -157,8 +214,9 @@ asks-look i b (wire lo width v) t =
     let le : lo ≤ i = leb→le lo i p in
     let lt : i < lo + width = ltb→lt i (lo + width) q in
     let back : i ≡ lo + (i - lo) = omega arith in
-    ap (λ (k : ℕ). bit k ((2 ^ width - 1) * 2 ^ lo)) back ∙ looks-own lo width v (i - lo) (omega arith)
+    ap (λ (k : ℕ). bit k ((2 ^ width - 1) * 2 ^ lo)) back ∙ mask-own lo width (i - lo) (omega arith)
 asks-look i b (wire-store lo width s) t = absurd t
+asks-look i b (wire-past lo width) t = absurd t
 asks-look i b (store s v) t = absurd t
 
 -- nothing is wanted where nobody looks
@@ -244,12 +302,20 @@ shifted-small lo width v p q = lt-of-lt-of-le (shl-lt width lo p) (pow-mono (sub
 look-of-small : (l : Literal) → Sized l → lookOf l < 2 ^ 64
 look-of-small (wire lo width v) (p, q) = shifted-small lo width (2 ^ width - 1) (ones-lt width) q
 look-of-small (wire-store lo width s) z = pow-pos 64
+look-of-small (wire-past lo width) z = pow-pos 64
 look-of-small (store s v) z = pow-pos 64
 
 want-of-small : (l : Literal) → Sized l → wantOf l < 2 ^ 64
 want-of-small (wire lo width v) (p, q) = shifted-small lo width v p q
 want-of-small (wire-store lo width s) z = pow-pos 64
+want-of-small (wire-past lo width) z = pow-pos 64
 want-of-small (store s v) z = pow-pos 64
+
+held-of-small : (l : Literal) → Sized l → heldOf l < 2 ^ 64
+held-of-small (wire lo width v) z = pow-pos 64
+held-of-small (wire-store lo width s) z = pow-pos 64
+held-of-small (wire-past lo width) q = shifted-small lo width (2 ^ width - 1) (ones-lt width) q
+held-of-small (store s v) z = pow-pos 64
 
 -- one mask of each literal, all joined
 module _ (one : Literal → ℕ) (small : (l : Literal) → Sized l → one l < 2 ^ 64) (mask : List Literal → ℕ) (none : mask [] ≡ 0)
@@ -273,6 +339,10 @@ look-append = mask-append lookOf look-of-small look refl (λ l ls. refl)
 pub want-append : (xs ys : List Literal) → AllSized xs → AllSized ys → want (xs ++ ys) ≡ bitOr (want xs) (want ys)
 unfolding want
 want-append = mask-append wantOf want-of-small want refl (λ l ls. refl)
+
+pub held-append : (xs ys : List Literal) → AllSized xs → AllSized ys → held (xs ++ ys) ≡ bitOr (held xs) (held ys)
+unfolding held
+held-append = mask-append heldOf held-of-small held refl (λ l ls. refl)
 
 pub sized-append : (xs ys : List Literal) → AllSized xs → AllSized ys → AllSized (xs ++ ys)
 sized-append xs ys sx sy l i = ⊎-elim (sx l) (sy l) (append-∈ xs i)

@@ -1,5 +1,5 @@
-// The wire literals of a letter as two words: the wires looked at, and the values wanted there (specs/Masks.antt),
-// and the test of a word against them (specs/Wires.antt).
+// The wire literals of a letter as two words, the wires looked at and the values wanted there, and a third for the wires that
+// must be as before (specs/Masks.antt); and the test of a word against two of them (specs/Wires.antt).
 ghost use mathlib.Core.Path.{_≡_};
 ghost use Rattle.masks.specs.Masks.{compatible};
 ghost use Rattle.masks.specs.Wires.{passes};

@@ -10,7 +10,7 @@ use lib.Dec.{T, T-not, not-T, eqb, leb, ltb, eqb→eq, eqb-refl, leb→le, ltb�
 use native.Mathlib.Decide.{decLt}
 use lib.Pow.{shr-shr, mod-mod-pow, pow-pos, field as field-shift}
 use Rattle.meaning.specs.Lists.{any, all, below, _∈_}
-use Rattle.meaning.specs.Expression.{Literal, wire, wire-store, store, Letter, field, bit}
+use Rattle.meaning.specs.Expression.{Literal, wire, wire-store, wire-past, store, Letter, field, bit}
 use Rattle.meaning.specs.Shape.{wireHolds, meetsWires, Together, Unsatisfiable}
 use Rattle.meaning.specs.ShapeTests.{asks, bits, agree, together, Sized, AllSized}
 use Rattle.meaning.proofs.ListLaws.{here, there, append-∈, ∈-left, ∈-right, and-T, T-and, any-from, any-to, all-at, all-from}
@@ -89,6 +89,7 @@ asked-bit w i b (wire lo width v) h a =
     back : (lo i : ℕ) → lo ≤ i → i ≡ lo + (i - lo)
     back lo i h = omega arith
 asked-bit w i b (wire-store lo width s) h a = absurd a
+asked-bit w i b (wire-past lo width) h a = absurd a
 asked-bit w i b (store s v) h a = absurd a
 
 pub agree-if : (w : ℕ) (ls : List Literal) → T (all (wireHolds w) ls) → T (agree ls)
@@ -157,6 +158,7 @@ met-if ls sized a = (word f 64, word-lt f 64, all-from (wireHolds (word f 64)) l
         (all-at (λ i. not (any (asks i 0) ls && any (asks i 1) ls)) (in-below 64 (lo + j) (omega arith)) a)))
         (eqb-refl (field lo width (word f 64)))
     one (wire-store lo width s) i z = tt
+    one (wire-past lo width) i z = tt
     one (store s v) i z = tt
 
 -- ---- the tests of rules 9 and 12 are what the rules say ----

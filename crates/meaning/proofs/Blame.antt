@@ -6,7 +6,7 @@ use mathlib.Core.List.{List, [], _∷_, _++_}
 use Prim.Native.Nat.{ℕ, _≤_}
 use lib.ListN.{length}
 use borrow.Author.Tests.{le-ltb}
-use Rattle.lexer.specs.Tokens.{Placed, tokens}
+use Rattle.lexer.specs.Tokens.{Placed, tokens, ruleWords}
 use Rattle.meaning.specs.Answers.{refused, byte}
 use Rattle.refusals.specs.Numbers.{oversize}
 use Rattle.meaning.specs.Reading
@@ -48,7 +48,7 @@ refusal-kept (t ∷ ts) us ns x number place e = by-step (step ns x t) e (λ ms 
     by-step (fault n q) e ih = cc
 
 -- Of a text that is not overlong, told from its first tokens alone.
-pub read-kept : (text : List ℕ) (ts us : List Placed) (number place : ℕ) → length text ≤ 16384 → tokens text ≡ ts ++ us
+pub read-kept : (text : List ℕ) (ts us : List Placed) (number place : ℕ) → length text ≤ 16384 → tokens ruleWords text ≡ ts ++ us
     → feed noNames statement ts ≡ fault number place → read text ≡ refused number (byte place)
 unfolding read
 read-kept text ts us number place h t e = rw (le-ltb 16384 (length text) h, t) (refusal-kept ts us noNames statement number place e)

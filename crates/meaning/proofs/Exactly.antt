@@ -8,7 +8,7 @@ use native.Mathlib.Omega.{arith}
 use lib.Dec.{ltb}
 use lib.ListN.{length}
 use borrow.Author.Tests.{lt-ltb, le-ltb}
-use Rattle.lexer.specs.Tokens.{Placed, tokens}
+use Rattle.lexer.specs.Tokens.{Placed, tokens, ruleWords}
 use Rattle.refusals.specs.Numbers.{overlong, longRun, impossible, hollow, openEnd, fork}
 use Rattle.meaning.specs.Lists.{_∈_, total}
 use Rattle.meaning.specs.Answers.{Answer, value, refused, Place, byte, letterOf}
@@ -232,9 +232,9 @@ module _ (text : List ℕ) where
   unfolding read
   no-letter number i letter e = by (ltb 16384 (length text)) e
     where
-      by : (t : Bool) → cond t (refused overlong (byte 0)) (readOn noNames statement (tokens text)) ≡ refused number (letterOf i letter) → ⊥
+      by : (t : Bool) → cond t (refused overlong (byte 0)) (readOn noNames statement (tokens ruleWords text)) ≡ refused number (letterOf i letter) → ⊥
       by true f = clash (cc)
-      by false f = reads-bytes noNames statement (tokens text) number i letter f
+      by false f = reads-bytes noNames statement (tokens ruleWords text) number i letter f
 
   module _ (p : Program) (e : read text ≡ value p) where
     written : Written text p
@@ -295,4 +295,4 @@ module _ (text : List ℕ) where
 -- An overlong text is refused as that, and at its first byte.
 pub overlong-refused : (text : List ℕ) → 16384 < length text → openText text ≡ refused overlong (byte 0)
 unfolding openText read
-overlong-refused text h = ap (λ (t : Bool). andOpen (cond t (refused overlong (byte 0)) (readOn noNames statement (tokens text)))) (lt-ltb 16384 (length text) h)
+overlong-refused text h = ap (λ (t : Bool). andOpen (cond t (refused overlong (byte 0)) (readOn noNames statement (tokens ruleWords text)))) (lt-ltb 16384 (length text) h)

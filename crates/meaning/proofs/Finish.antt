@@ -13,15 +13,15 @@ use lib.Pow.{pow-pos}
 use Rattle.lexer.specs.Bytes.{bytes, run, same, lookup, isWhite, isDigit, isLetter}
 use Rattle.lexer.specs.Signs.{signs}
 use Rattle.lexer.specs.Tokens as token
-use Rattle.lexer.specs.Tokens.{Token, valueFrom, nameToken, numberToken, signToken, firstToken, nextToken, tokenAt}
+use Rattle.lexer.specs.Tokens.{Token, valueFrom, nameToken, numberToken, signToken, firstToken, nextToken, tokenAt, ruleWords}
 use Rattle.lexer.proofs.Every.{every, every-at}
 use Rattle.meaning.specs.Expression.{Literal, Write, Exp, storeTests}
-use Rattle.meaning.specs.Reading.{Level, newLevel, Open, Context, inDefine, inLetter, Expect, statement, sign, nought, closing, inputName, inputMore, inputHigh, storeName, storeMore, storeHigh, storeFirst, defineName, operand, literal, negated, wireMore, bitIndex, wireEquals, storeEquals, literalMore, writeStore, writeValue, writeMore, operandMore, monitorName, monitorMore, textEnd, isSign, toZero, whole, behindWord}
+use Rattle.meaning.specs.Reading.{Level, newLevel, Open, Context, inDefine, inLetter, Expect, statement, sign, nought, closing, inputName, inputMore, inputHigh, storeName, storeMore, storeHigh, storeFirst, defineName, operand, literal, negated, wireMore, bitIndex, wireEquals, storeEquals, pastName, literalMore, writeStore, writeValue, writeMore, operandMore, monitorName, monitorMore, textEnd, isSign, toZero, whole}
 use Rattle.meaning.specs.Names.{aProduction, Names, noNames, Declaration, newInput, newStore, newDefine, newProduction, declare, Program, programOf}
 use Rattle.meaning.specs.Grammar
 use Rattle.meaning.specs.Grammar.{Stands, IsText}
 use Rattle.meaning.specs.Viable.{Spelled, AllSpelled, HasProduction, HasLiteral, Room, Ends, EndsIn, Spare}
-use Rattle.meaning.proofs.Outcomes.{is-token, LiteralNext, more-literals, first-literal, literals, BehindOperand, operands, letters, first-write, BySign, expected, closed, narrow-input, narrow-store, defined, compared, index, written, level-closed, produced, all-monitors, ByNumber, zero-read, input-width, store-width, first-value, bit-index, wire-value, store-value, number-written, ByName, new-input, new-store, new-define, new-production, of-wire, of-store, of-define, of-production, of-negated, store-written, monitored, Next, by-sign, by-number, by-name, by-word}
+use Rattle.meaning.proofs.Outcomes.{is-token, LiteralNext, more-literals, first-literal, literals, BehindOperand, operands, letters, first-write, BySign, expected, closed, narrow-input, narrow-store, defined, compared, index, written, level-closed, produced, all-monitors, ByNumber, zero-read, input-width, store-width, first-value, bit-index, wire-value, store-value, number-written, ByName, new-input, new-store, new-define, new-production, of-wire, of-store, of-define, of-production, of-negated, store-written, monitored, Next, by-sign, by-number, by-name, by-word, same-wire, ByWord, begins-input, begins-monitor}
 use Rattle.meaning.proofs.GrammarDerives.{Derived, next-derived}
 use Rattle.meaning.proofs.FreeName.{New, new-name}
 use Rattle.meaning.proofs.Sound
@@ -43,15 +43,15 @@ finished T (then {ns} t n f) d = finished T f (next-derived T ns (tokensOf f) n 
 
 -- ---- tokens that a text can have: signs, 0, words and the end, by computation
 
-abbrev spelling : ℕ → List ℕ
-spelling k = getD (map (λ e. e .spelling) signs) k []
+abbrev spellingOf : ℕ → List ℕ
+spellingOf k = getD (map (λ e. e .spelling) signs) k []
 
-signs-spelled : every (λ k. isSign k (tokenAt (spelling k) 0 .token)) 18 ≡ true
+signs-spelled : every (λ k. isSign k (tokenAt ruleWords (spellingOf k) 0 .token)) 18 ≡ true
 unfolding tokenAt nextToken firstToken signToken run same lookup isWhite isDigit isLetter
 signs-spelled = refl
 
 sign-spelled : (k : ℕ) → ltb k 18 ≡ true → Spelled (token.sign k)
-sign-spelled k h = (spelling k, 0, is-token k _ (every-at (λ k. isSign k (tokenAt (spelling k) 0 .token)) 18 signs-spelled k (ltb-true k 18 h)))
+sign-spelled k h = (spellingOf k, 0, is-token k _ (every-at (λ k. isSign k (tokenAt ruleWords (spellingOf k) 0 .token)) 18 signs-spelled k (ltb-true k 18 h)))
 
 zero-spelled : Spelled (token.number 0)
 unfolding tokenAt nextToken firstToken numberToken valueFrom run same lookup isWhite isDigit isLetter
@@ -63,6 +63,7 @@ word-spelled token.input = (bytes "input", 0, refl)
 word-spelled token.internal = (bytes "internal", 0, refl)
 word-spelled token.define = (bytes "define", 0, refl)
 word-spelled token.monitor = (bytes "monitor", 0, refl)
+word-spelled token.past = (bytes "past", 0, refl)
 
 end-spelled : Spelled token.end
 unfolding tokenAt nextToken firstToken run
@@ -84,14 +85,14 @@ module _ {ns : Names} {x y : Expect} where
   sign-then : {k : ℕ} {ms : Names} → ltb k 18 ≡ true → BySign ns k x ms y → Finish ms y → Finish ns x
   sign-then {k} h n f = then (sign-spelled k h) (by-sign n) f
 
-word-then : {ns : Names} (w : token.Word) → Finish ns (behindWord w) → Finish ns statement
-word-then w f = then (word-spelled w) by-word f
+word-then : {ns : Names} {w : token.Word} {x y : Expect} → ByWord w x y → Finish ns y → Finish ns x
+word-then {w} n f = then (word-spelled w) (by-word n) f
 
 -- ---- from a statement on
 
 -- monitor N;
 monitor-ends : {ns : Names} (s : List ℕ) (e : Exp) → Spelled (token.name s) → Stands ns s (aProduction e) → Finish ns statement
-monitor-ends s e t h = word-then token.monitor (name-then t (monitored h (omega arith)) (sign-then refl all-monitors ends))
+monitor-ends s e t h = word-then begins-monitor (name-then t (monitored h (omega arith)) (sign-then refl all-monitors ends))
 
 -- behind an operand: a `)` for each level, and `;`; the production is the monitor
 operand-ends : {ns : Names} (ls : List Level) {x : Expect} {o : Open} {e : Exp} {b : Bool} → OpenSound o → BehindOperand x o e b → o .outer ≡ ls → Finish ns x
@@ -133,7 +134,7 @@ statement-ends ns names (inr h) = by (names .rooted) (new-name ns h)
         let d : Declaration = newInput s 1 in
         let w : ns .wires < 64 = omega (arith, ap (λ (k : Names). k .wires) e) in
         let l : Room 1 (declare d ns) = omega (arith, one-more ns d, ap (λ (k : Names). length (k .declared)) e) in
-        word-then token.input (name-then (f .1) (new-input (f .0) w) (sign-then refl narrow-input
+        word-then begins-input (name-then (f .1) (new-input (f .0) w) (sign-then refl narrow-input
         (production-ends (declare d ns) (declare-sound ns names d (f, omega arith)) (Sound.an-input (s, ns .wires, 1, stands-itself ns d)) l)))
     by (inr r) f = production-ends ns names r h
 
@@ -210,9 +211,10 @@ module _ (ns : Names) (names : NamesSound ns) where
   finish (literal c ls) g (l, h) = next-ends g l h
   finish (negated c ls) g ((s, lo, w, e), h) =
       name-then (names .spelled s _ e) (of-negated e) (sign-then refl index (bit-ends c ls lo w 0 (g, root ns names s _ e) (names .inputs s lo w e) h))
-  finish (wireMore c ls lo w v p) (g, k) h = sign-then refl index (bit-ends c ls lo w v g k h)
+  finish (wireMore c ls s lo w v p) (g, k, r) h = sign-then refl index (bit-ends c ls lo w v g k h)
   finish (bitIndex c ls lo w v) (g, k) h = bit-ends c ls lo w v g k h
-  finish (wireEquals c ls lo w) g h = zero-then (wire-value (pow-pos w)) (literals-end c _ g h)
+  finish (wireEquals c ls s lo w) (g, r) h = zero-then (wire-value (pow-pos w)) (literals-end c _ g h)
+  finish (pastName c ls s lo w) (g, r) h = name-then r same-wire (sign-then refl expected (literals-end c _ g h))
   finish (storeEquals c ls n w) g h = zero-then (store-value (pow-pos w)) (literals-end c _ g h)
   finish (literalMore c ls) g h = literals-end c ls g h
   finish (writeStore o ls ws) (t, few) (s, n, w, e) = name-then (names .spelled s _ e) (store-written first-write e few) (sign-then refl expected (write-ends o ls ws n w t))

@@ -12,7 +12,7 @@ use lib.ListN.{length}
 use borrow.Author.Tests.{eqb-true, ltb-true, ltb-false}
 use Rattle.lexer.specs.Bytes.{Entry, same, lookup, run, isWhite, isDigit, isLetter}
 use Rattle.lexer.specs.Tokens as token
-use Rattle.lexer.specs.Tokens.{Token, nameToken, firstToken, nextToken, tokenAt}
+use Rattle.lexer.specs.Tokens.{Token, nameToken, firstToken, nextToken, tokenAt, ruleWords}
 use Rattle.lexer.proofs.Bools.{and-left, and-right}
 use Rattle.lexer.proofs.Spelling.{same-eq}
 use Rattle.meaning.specs.Names.{Names}
@@ -110,7 +110,7 @@ is-name s token.end e = clash (cc)
 is-name s (token.refused n) e = clash (cc)
 
 -- all words of seven letters are names, by computation
-words-named : everyWord 7 (λ s. isName s (tokenAt s 0 .token)) ≡ true
+words-named : everyWord 7 (λ s. isName s (tokenAt ruleWords s 0 .token)) ≡ true
 unfolding tokenAt nextToken firstToken nameToken run same lookup isWhite isDigit isLetter
 words-named = refl
 
@@ -121,5 +121,5 @@ New ns s = Free ns s × Spelled (token.name s)
 -- Where there is room for a name, there is one.
 pub new-name : (ns : Names) → Room 1 ns → (s : List ℕ) × New ns s
 new-name ns h =
-    let (s, e, t) = free-word 7 (λ s. isName s (tokenAt s 0 .token)) (ns .declared) words-named (omega arith) in
+    let (s, e, t) = free-word 7 (λ s. isName s (tokenAt ruleWords s 0 .token)) (ns .declared) words-named (omega arith) in
     (s, ((e, omega arith), (s, 0, is-name s _ t)))

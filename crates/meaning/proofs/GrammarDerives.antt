@@ -10,15 +10,15 @@ use borrow.Author.Tests.{ltb-false}
 use Rattle.lexer.specs.Tokens as token
 use Rattle.lexer.specs.Tokens.{Token, Placed}
 use Rattle.meaning.specs.Names.{newInput, newProduction, anInput, aStore, aProduction, Names, noNames, declare, Program, programOf}
-use Rattle.meaning.specs.Expression.{Literal, wire, wire-store, store, Write, from-wire, from-number, Exp, seq, alt, pipe, storeTests}
+use Rattle.meaning.specs.Expression.{Literal, wire, wire-store, wire-past, store, Write, from-wire, from-number, Exp, seq, alt, pipe, storeTests}
 use Rattle.meaning.specs.Answers.{Answer, value}
 use Rattle.lexer.specs.Signs
 use Rattle.meaning.specs.Reading
-use Rattle.meaning.specs.Reading.{Level, newLevel, Open, Context, inDefine, inLetter, Expect, statement, sign, nought, closing, inputName, inputMore, inputHigh, storeName, storeMore, storeHigh, storeFirst, defineName, operand, literal, negated, wireMore, bitIndex, wireEquals, storeEquals, literalMore, writeStore, writeValue, writeMore, operandMore, monitorName, monitorMore, textEnd, Step, andThen, readOn, tooMany, join, whole, behindWord}
+use Rattle.meaning.specs.Reading.{Level, newLevel, Open, Context, inDefine, inLetter, Expect, statement, sign, nought, closing, inputName, inputMore, inputHigh, storeName, storeMore, storeHigh, storeFirst, defineName, operand, literal, negated, wireMore, bitIndex, wireEquals, storeEquals, pastName, literalMore, writeStore, writeValue, writeMore, operandMore, monitorName, monitorMore, textEnd, Step, andThen, readOn, tooMany, join, whole}
 use Rattle.meaning.specs.Grammar
 use Rattle.meaning.specs.Grammar.{Stands, Free, IsBit, IsLiteral, IsLiterals, IsWrite, IsWrites, IsAtom, IsStarred, IsPiped, IsSequence, IsAlternative, IsWidth, IsMonitors, IsText, plainTokens}
 use Rattle.meaning.proofs.ListLaws.{clash}
-use Rattle.meaning.proofs.Outcomes.{LiteralNext, more-literals, first-literal, BehindLiterals, literals, one-wire, BehindOperand, operands, letters, WriteNext, first-write, more-writes, BySign, expected, closed, narrow-input, wide-input, narrow-store, wide-store, opened, negation, index, compared, joined, defined, writing, written, starred, piped, followed, or-else, level-closed, produced, more-monitors, all-monitors, ByNumber, zero-read, input-width, store-width, first-value, bit-index, wire-value, store-value, number-written, ByName, new-input, new-store, new-define, new-production, of-wire, of-store, of-define, of-production, of-negated, equal-store, store-written, wire-written, monitored, Next, by-sign, by-number, by-name, by-word, Outcome, refusal, late, ended, goes, outcome}
+use Rattle.meaning.proofs.Outcomes.{LiteralNext, more-literals, first-literal, BehindLiterals, literals, one-wire, BehindOperand, operands, letters, WriteNext, first-write, more-writes, BySign, expected, closed, narrow-input, wide-input, narrow-store, wide-store, opened, negation, index, compared, joined, defined, writing, written, starred, piped, followed, or-else, level-closed, produced, more-monitors, all-monitors, ByNumber, zero-read, input-width, store-width, first-value, bit-index, wire-value, store-value, number-written, ByName, new-input, new-store, new-define, new-production, of-wire, of-store, of-define, of-production, of-negated, equal-store, store-written, wire-written, monitored, same-wire, ByWord, begins-input, begins-store, begins-define, begins-monitor, compared-past, Next, by-sign, by-number, by-name, by-word, Outcome, refusal, late, ended, goes, outcome}
 use Rattle.meaning.proofs.Within.{count-append}
 use Rattle.meaning.proofs.GrammarReads.{Fits}
 
@@ -65,10 +65,9 @@ fits-after : (c : Context) (ls ks : List Literal) → tooMany c ls (storeTests k
 fits-after (inDefine s) ls ks e = tt
 fits-after (inLetter o) ls ks e = omega (arith, count-append ls ks, ltb-false 2 (storeTests ls + storeTests ks) e)
 
-fits-wire : (c : Context) (ls : List Literal) (lo w v : ℕ) → Fits c ls → Fits c (ls ++ (wire lo w v ∷ []))
-unfolding storeTests
-fits-wire (inDefine s) ls lo w v h = tt
-fits-wire (inLetter o) ls lo w v h = omega (arith, count-append ls (wire lo w v ∷ []))
+fits-untested : (c : Context) (ls : List Literal) (l : Literal) → storeTests (l ∷ []) ≡ 0 → Fits c ls → Fits c (ls ++ (l ∷ []))
+fits-untested (inDefine s) ls l e h = tt
+fits-untested (inLetter o) ls l e h = omega (arith, count-append ls (l ∷ []))
 
 fits-none : (c : Context) → Fits c []
 unfolding storeTests
@@ -136,13 +135,14 @@ module _ (T : List Token) where
   Derived ns (operand o) ts = OperandAt ns o ts
   Derived ns (literal c ls) ts = LiteralAt ns c ls ts
   Derived ns (negated c ls) ts = BitAt ns c ls 0 ts
-  Derived ns (wireMore c ls lo w v n) ts =
-      (s : List ℕ) × Stands ns s (anInput lo w) × BitAt ns c ls v (token.name s ∷ ts) × (v ≡ 1 → LiteralAt ns c ls (token.name s ∷ ts))
+  Derived ns (wireMore c ls s lo w v n) ts =
+      Stands ns s (anInput lo w) × BitAt ns c ls v (token.name s ∷ ts) × (v ≡ 1 → LiteralAt ns c ls (token.name s ∷ ts))
   Derived ns (bitIndex c ls lo w v) ts = (s : List ℕ) × Stands ns s (anInput lo w) × BitAt ns c ls v (token.name s ∷ token.sign Signs.leftBracket ∷ ts)
-  Derived ns (wireEquals c ls lo w) ts =
-      (s : List ℕ) × Stands ns s (anInput lo w) × LiteralAt ns c ls (token.name s ∷ token.sign Signs.doubleEquals ∷ ts)
+  Derived ns (wireEquals c ls s lo w) ts = Stands ns s (anInput lo w) × LiteralAt ns c ls (token.name s ∷ token.sign Signs.doubleEquals ∷ ts)
   Derived ns (storeEquals c ls n w) ts =
       (s : List ℕ) × Stands ns s (aStore n w) × (tooMany c ls 1 ≡ false) × LiteralAt ns c ls (token.name s ∷ token.sign Signs.doubleEquals ∷ ts)
+  Derived ns (pastName c ls s lo w) ts =
+      Stands ns s (anInput lo w) × LiteralAt ns c ls (token.name s ∷ token.sign Signs.doubleEquals ∷ token.word token.past ∷ token.sign Signs.leftParen ∷ ts)
   Derived ns (literalMore c ls) ts = LiteralsAt ns c ls ts
   Derived ns (writeStore o ls ws) ts = WriteAt ns o ls ws ts
   Derived ns (writeValue o ls ws n w) ts =
@@ -164,10 +164,12 @@ module _ (T : List Token) where
     next-literal c ls (ts, at, x, h) = (h, λ ks ws y g. (ts, at, Grammar.and-literal x y, g))
 
     bits : (c : Context) (ls : List Literal) (ts : List Token) → LiteralAt ns c ls ts → BitAt ns c ls 1 ts
-    bits c ls ts (h, f) i ws x = f (wire i 1 1 ∷ []) ws (Grammar.set-bit x) (fits-wire c ls i 1 1 h)
+    unfolding storeTests
+    bits c ls ts (h, f) i ws x = f (wire i 1 1 ∷ []) ws (Grammar.set-bit x) (fits-untested c ls (wire i 1 1) refl h)
 
     clear-bits : (c : Context) (ls : List Literal) → LiteralAt ns c ls (token.sign Signs.bang ∷ us) → BitAt ns c ls 0 us
-    clear-bits c ls (h, f) i ws x = f (wire i 1 0 ∷ []) ws (Grammar.clear-bit x) (fits-wire c ls i 1 0 h)
+    unfolding storeTests
+    clear-bits c ls (h, f) i ws x = f (wire i 1 0 ∷ []) ws (Grammar.clear-bit x) (fits-untested c ls (wire i 1 0) refl h)
 
     begin-literals : (c : Context) (ts : List Token) → InContext ns c ts → LiteralAt ns c [] ts
     begin-literals c ts at = (fits-none c, λ ks ws x h. (ts, at, Grammar.one-literal x, h))
@@ -178,7 +180,7 @@ module _ (T : List Token) where
 
     literals-at : {x : Expect} {c : Context} {ls : List Literal} → BehindLiterals x c ls → (ts : List Token) → Derived ns x ts → LiteralsAt ns c ls ts
     literals-at literals ts d = d
-    literals-at (one-wire {lo} e) ts (s, h, bit, lit) = bit lo ts (Grammar.one-bit (subst (λ m. Stands ns s (anInput lo m)) e h))
+    literals-at (one-wire {s} {lo} e) ts (h, bit, lit) = bit lo ts (Grammar.one-bit (subst (λ m. Stands ns s (anInput lo m)) e h))
 
     -- literals are a letter, and that an operand
     operand-at : {x : Expect} {o : Open} {e : Exp} {b : Bool} → BehindOperand x o e b → (ts : List Token) → Derived ns x ts → Derived ns (operandMore o e b) ts
@@ -217,8 +219,8 @@ module _ (T : List Token) where
     sign-derived wide-store d = d
     sign-derived (opened few) d = (new-level us, (few, d))
     sign-derived (negation {c} {ls} n) d = clear-bits c ls (literal-at n _ d)
-    sign-derived index (s, e, bit, lit) = (s, e, bit)
-    sign-derived (compared k) (s, e, bit, lit) = (s, e, lit k)
+    sign-derived (index {s}) (e, bit, lit) = (s, e, bit)
+    sign-derived (compared k) (e, bit, lit) = (e, lit k)
     sign-derived (joined {c} {ls} n) d = next-literal c ls (literals-at n _ d)
     sign-derived (defined n) d = let (ts, (free, from), x, h) = literals-at n _ d in λ p r. from p (Grammar.declares (Grammar.a-define free x) r)
     sign-derived (writing n) d = let (ts, at, x, h) = literals-at n _ d in λ w ws y k. (ts, us, at, x, h, Grammar.one-write y, omega arith)
@@ -250,8 +252,8 @@ module _ (T : List Token) where
     number-derived (first-value {v} {w} l) (vs, free, k, from, x) = λ ws z p r.
         from p (Grammar.declares (Grammar.a-store free k (subst (λ r. IsWidth vs (token.sign Signs.equals ∷ token.number v ∷ r) w) z x) l) r)
     number-derived (bit-index {i} {lo} h) (s, e, f) = λ vs z. f (lo + i) vs (rw z (Grammar.indexed e h))
-    number-derived (wire-value {c} {ls} {lo} {w} {v} h) (s, e, lit) =
-        lit .1 (wire lo w v ∷ []) us (Grammar.wire-equals-number e h) (fits-wire c ls lo w v (lit .0))
+    number-derived (wire-value {c} {ls} {lo} {w} {v} h) (e, lit) =
+        lit .1 (wire lo w v ∷ []) us (Grammar.wire-equals-number e h) (fits-untested c ls (wire lo w v) refl (lit .0))
     number-derived (store-value {c} {ls} {n} {v} h) (s, e, l, lit) =
         lit .1 (store n v ∷ []) us (Grammar.store-equals-number e h) (fits-after c ls (store n v ∷ []) l)
     number-derived (number-written {n} {v} h) (s, e, l, f) = λ vs z. f (from-number n v) vs (rw z (Grammar.write-number e h)) l
@@ -262,12 +264,14 @@ module _ (T : List Token) where
     name-derived (new-store free h) d = (free, h, d)
     name-derived {n} (new-define free) d = λ vs z. begin-literals (inDefine n) vs (free, subst (λ r. From ns (token.word token.define ∷ token.name n ∷ r)) z d)
     name-derived {n} (new-production free) d = λ vs z. (new-level vs, (free, subst (λ r. From ns (token.name n ∷ r)) z d))
-    name-derived {n} (of-wire {c} {ls} g e) d = (n, e, bits c ls (token.name n ∷ us) (literal-at g _ d), λ k. literal-at g _ d)
+    name-derived {n} (of-wire {c} {ls} g e) d = (e, bits c ls (token.name n ∷ us) (literal-at g _ d), λ k. literal-at g _ d)
     name-derived {n} (of-store {c} {ls} g e k) d = λ ws z. (n, e, k, subst (λ r. LiteralAt ns c ls (token.name n ∷ r)) z (literal-at g _ d))
     name-derived (of-define {c} {ls} {ds} g e k) d = literal-at g _ d .1 ds us (Grammar.defined e) (fits-after c ls ds k)
     name-derived {n} (of-production k) d = (token.name n ∷ us, d, (λ z. Grammar.copied k), Grammar.unstarred (Grammar.copied k))
-    name-derived {n} (of-negated e) d = (n, e, d, λ k. clash (cc))
-    name-derived (equal-store {c} {ls} {lo} {w} {n = i} g k) (s, e, lit) =
+    name-derived (of-negated e) d = (e, d, λ k. clash (cc))
+    name-derived {n} (same-wire {c} {ls} {lo} {w}) (e, lit) = λ vs z.
+        lit .1 (wire-past lo w ∷ []) vs (rw z (Grammar.wire-equals-past e)) (fits-untested c ls (wire-past lo w) refl (lit .0))
+    name-derived (equal-store {c} {ls} {lo} {w} {n = i} g k) (e, lit) =
         lit .1 (wire-store lo w i ∷ []) us (Grammar.wire-equals-store e g) (fits-after c ls (wire-store lo w i ∷ []) k)
     name-derived {n} (store-written {o} {ls} {ws} g e k) d = λ vs z. (n, e, k, subst (λ r. WriteAt ns o ls ws (token.name n ∷ r)) z (write-at g _ d))
     name-derived (wire-written {n = i} {lo} {m} g k) (s, e, l, f) =
@@ -275,17 +279,19 @@ module _ (T : List Token) where
         λ vs z. f (from-wire i lo m) vs (rw z (Grammar.write-wire y g)) l
     name-derived {n} (monitored {ms} {e} k l) (vs, from, f) = (vs, from, f n e us refl k, omega (arith, length-append ms (e ∷ [])))
 
-    word-derived : (w : token.Word) → From ns (token.word w ∷ us) → Derived ns (behindWord w) us
-    word-derived token.input d = d
-    word-derived token.internal d = d
-    word-derived token.define d = d
-    word-derived token.monitor d = (us, d, λ s e vs z h. rw z (Grammar.one-monitor h))
+    word-derived : {w : token.Word} {x y : Expect} → ByWord w x y → Derived ns x (token.word w ∷ us) → Derived ns y us
+    word-derived begins-input d = d
+    word-derived begins-store d = d
+    word-derived begins-define d = d
+    word-derived begins-monitor d = (us, d, λ s e vs z h. rw z (Grammar.one-monitor h))
+    word-derived (compared-past {c} {ls} {s}) (e, lit) = λ vs z.
+        (e, subst (λ r. LiteralAt ns c ls (token.name s ∷ token.sign Signs.doubleEquals ∷ token.word token.past ∷ r)) z lit)
 
     pub next-derived : {place : ℕ} {u : Token} {x y : Expect} {ms : Names} → Next ns place u x ms y → Derived ns x (u ∷ us) → Derived ms y us
     next-derived (by-sign n) d = sign-derived n d
     next-derived (by-number n) d = number-derived n d
     next-derived (by-name n) d = name-derived n d
-    next-derived (by-word {w}) d = word-derived w d
+    next-derived (by-word n) d = word-derived n d
 
 -- ---- all tokens
 

@@ -9,6 +9,7 @@ use lib.ListN.{length, length-append}
 use borrow.Author.Tests.{eq-eqb, le-ltb, lt-leb}
 use Rattle.lexer.specs.Bytes.{lookup}
 use Rattle.lexer.specs.Tokens as token
+use Rattle.lexer.proofs.Spelling.{same-refl}
 use Rattle.lexer.specs.Tokens.{Token, Placed}
 use Rattle.meaning.specs.Names.{newInput, newStore, Meaning, anInput, aStore, aDefine, aProduction, Names, Declaration, declare, Program}
 use Rattle.meaning.specs.Expression.{Literal, wire, wire-store, store, Write, Exp, seq, alt, pipe, storeTests, aLetter}
@@ -16,7 +17,7 @@ use Rattle.meaning.specs.Answers.{Answer, value}
 use Rattle.refusals.specs.Numbers.{unknown}
 use Rattle.lexer.specs.Signs
 use Rattle.meaning.specs.Reading
-use Rattle.meaning.specs.Reading.{Level, Open, Context, inDefine, inLetter, Expect, statement, sign, nought, closing, inputName, inputMore, inputHigh, storeName, storeMore, storeHigh, storeFirst, defineName, operand, literal, negated, wireMore, bitIndex, wireEquals, storeEquals, literalMore, writeStore, writeValue, writeMore, operandMore, monitorName, monitorMore, textEnd, Step, go, fault, choose, atToken, notHere, unless, ifName, ifNumber, onName, onNumber, byKind, known, newName, step, readOn, behindOperand, behindLiteral, literalName, tooMany, join}
+use Rattle.meaning.specs.Reading.{Level, Open, Context, inDefine, inLetter, Expect, statement, sign, nought, closing, inputName, inputMore, inputHigh, storeName, storeMore, storeHigh, storeFirst, defineName, operand, literal, negated, wireMore, bitIndex, wireEquals, storeEquals, pastName, literalMore, writeStore, writeValue, writeMore, operandMore, monitorName, monitorMore, textEnd, Step, go, fault, choose, atToken, notHere, unless, ifName, ifNumber, onName, onNumber, byKind, known, newName, step, readOn, behindOperand, behindLiteral, literalName, tooMany, join}
 use Rattle.meaning.specs.Grammar
 use Rattle.meaning.specs.Grammar.{Stands, IsBit, IsLiteral, IsLiterals, IsWrite, IsWrites, IsLetter, IsAtom, IsStarred, IsPiped, IsSequence, IsAlternative, IsWidth, IsDeclaration, IsMonitors, IsText, plainTokens}
 use Rattle.meaning.proofs.ListLaws.{clash}
@@ -109,10 +110,10 @@ module _ {p : Program} {ns : Names} {x : Expect} (y : Expect) (wide : (q : Place
 
 module _ (ns : Names) where
   -- a bare wire is a literal: neither `[` nor `==` follows a literal
-  bare-wide : (c : Context) (ls : List Literal) (lo v n : ℕ) (q : Placed)
-      → Agrees (step ns (literalMore c (ls ++ (wire lo 1 v ∷ []))) q) (step ns (wireMore c ls lo 1 v n) q)
+  bare-wide : (c : Context) (ls : List Literal) (s : List ℕ) (lo v n : ℕ) (q : Placed)
+      → Agrees (step ns (literalMore c (ls ++ (wire lo 1 v ∷ []))) q) (step ns (wireMore c ls s lo 1 v n) q)
   unfolding step choose behindLiteral behindOperand notHere
-  bare-wide c ls lo v n q =
+  bare-wide c ls s lo v n q =
       let x : Expect = literalMore c (ls ++ (wire lo 1 v ∷ [])) in
       skip ns x Signs.leftBracket q _ _ (λ a b. neither c a b .0) (skip ns x Signs.doubleEquals q _ _ (λ a b. neither c a b .1) (same refl))
     where
@@ -193,29 +194,31 @@ fits-before (inLetter o) ks ls h = omega (arith, count-append ks ls)
 module _ {p : Program} {ns : Names} {c : Context} where
   -- a bit behind whatever a wire's name leads from, that is to be v
   bit-reads : (ls : List Literal) (v : ℕ) {i : ℕ} {ts us : List Token} (x : Expect)
-      → ((s : List ℕ) (lo w a b : ℕ) → Stands ns s (anInput lo w) → step ns x (placed (token.name s) a b) ≡ go ns (wireMore c ls lo w v a))
+      → ((s : List ℕ) (lo w a b : ℕ) → Stands ns s (anInput lo w) → step ns x (placed (token.name s) a b) ≡ go ns (wireMore c ls s lo w v a))
       → IsBit ns ts us i → Reads p ns (literalMore c (ls ++ (wire i 1 v ∷ []))) us → Reads p ns x ts
   unfolding step choose onNumber ifNumber unless
-  bit-reads ls v x f (Grammar.one-bit {s} {lo} h) r = next (wireMore c ls lo 1 v) (λ n. wider _ (bare-wide ns c ls lo v n) r) (λ a b. f s lo 1 a b h)
+  bit-reads ls v x f (Grammar.one-bit {s} {lo} h) r = next (wireMore c ls s lo 1 v) (λ n. wider _ (bare-wide ns c ls s lo v n) r) (λ a b. f s lo 1 a b h)
   bit-reads ls v x f (Grammar.indexed {s} {lo} {width} {i} h k) r =
-      next (wireMore c ls lo width v)
-      (λ n. then (wireMore c ls lo width v n) (then (bitIndex c ls lo width v) (signed r) (λ a b. rw (lt-leb width i k))) (λ a b. refl))
+      next (wireMore c ls s lo width v)
+      (λ n. then (wireMore c ls s lo width v n) (then (bitIndex c ls lo width v) (signed r) (λ a b. rw (lt-leb width i k))) (λ a b. refl))
       (λ a b. f s lo width a b h)
 
   -- a wire's name, and `==` behind it
-  wire-reads : (ls : List Literal) {s : List ℕ} {lo w : ℕ} {ts : List Token} → Stands ns s (anInput lo w) → Reads p ns (wireEquals c ls lo w) ts
+  wire-reads : (ls : List Literal) {s : List ℕ} {lo w : ℕ} {ts : List Token} → Stands ns s (anInput lo w) → Reads p ns (wireEquals c ls s lo w) ts
       → Reads p ns (literal c ls) (token.name s ∷ token.sign Signs.doubleEquals ∷ ts)
   unfolding step choose literalName known onName ifName byKind
-  wire-reads ls {lo} {w} e r = next {ns = ns} {ms = ns} (wireMore c ls lo w 1) (λ n. then (wireMore c ls lo w 1 n) r (λ a b. refl)) (λ a b. rw e)
+  wire-reads ls {s} {lo} {w} e r = next {ns = ns} {ms = ns} (wireMore c ls s lo w 1) (λ n. then (wireMore c ls s lo w 1 n) r (λ a b. refl)) (λ a b. rw e)
 
   literal-reads : (ls : List Literal) {ks : List Literal} {ts us : List Token} → IsLiteral ns ts us ks → Fits c (ls ++ ks) → Reads p ns (literalMore c (ls ++ ks)) us
       → Reads p ns (literal c ls) ts
   unfolding step choose literalName known onName ifName byKind onNumber ifNumber unless storeTests
   literal-reads ls (Grammar.set-bit b) h r = bit-reads ls 1 (literal c ls) (λ s lo w a b e. rw e) b r
   literal-reads ls (Grammar.clear-bit b) h r = then (literal c ls) (bit-reads ls 0 (negated c ls) (λ s lo w a b e. rw e) b r) (λ a b. refl)
-  literal-reads ls (Grammar.wire-equals-number {lo} {width} {v} e k) h r = wire-reads ls e (then (wireEquals c ls lo width) r (λ a b. rw (lt-leb (2 ^ width) v k)))
-  literal-reads ls (Grammar.wire-equals-store {lo} {width} {n} e g) h r =
-      wire-reads ls e (then (wireEquals c ls lo width) r (λ a b. rw (g, eq-eqb width width refl, fits-more c ls (wire-store lo width n ∷ []) h)))
+  literal-reads ls (Grammar.wire-equals-number {s} {lo} {width} {v} e k) h r = wire-reads ls e (then (wireEquals c ls s lo width) r (λ a b. rw (lt-leb (2 ^ width) v k)))
+  literal-reads ls (Grammar.wire-equals-store {s} {lo} {width} {n} e g) h r =
+      wire-reads ls e (then (wireEquals c ls s lo width) r (λ a b. rw (g, eq-eqb width width refl, fits-more c ls (wire-store lo width n ∷ []) h)))
+  literal-reads ls (Grammar.wire-equals-past {s} {lo} {width} e) h r =
+      wire-reads ls e (then (wireEquals c ls s lo width) (signed (then (pastName c ls s lo width) (signed r) (λ a b. rw (same-refl s)))) (λ a b. refl))
   literal-reads ls (Grammar.store-equals-number {n} {width} {v} e k) h r =
       then (literal c ls) (signed (then (storeEquals c ls n width) r (λ a b. rw (lt-leb (2 ^ width) v k)))) (λ a b. rw (e, fits-more c ls (store n v ∷ []) h))
   literal-reads ls (Grammar.defined {ls = ds} e) h r = then (literal c ls) r (λ a b. rw (e, fits-more c ls ds h))

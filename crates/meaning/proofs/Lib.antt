@@ -13,7 +13,7 @@ pub mod Active
 pub mod Monitor
 -- only which letters are active counts, not how often or in which order
 pub mod Sets
--- word by word the machine's verdict is that of `Fit`, and its positions and store values are those of the history
+-- word by word the machine's verdict is that of `Fit`, and its positions, last word and store values are those of the history
 pub mod Watch
 -- literals agree bit by bit exactly where a word meets them all
 pub mod Bits

@@ -8,7 +8,7 @@ use Prim.Native.Nat.{ℕ}
 use lib.Dec.{T, eqb}
 use lib.ListN.{length, getD}
 use Rattle.meaning.specs.Lists.{null, member, _∈_}
-use Rattle.meaning.specs.Expression.{Literal, wire, wire-store, store, Letter, Exp, letter, seq, alt, star, pipe, letters}
+use Rattle.meaning.specs.Expression.{Literal, wire, wire-store, wire-past, store, Letter, Exp, letter, seq, alt, star, pipe, letters}
 use Rattle.meaning.specs.Shape.{SideBySide, meetsWires, wireHolds, first, follow, threads}
 use Rattle.meaning.specs.ShapeTests.{together}
 use Rattle.meaning.specs.Fit.{Tick, meets, holds, Run, Rest, pastTheEnd, anything, nothing, merge, both, runs, monitor, fits, met}
@@ -39,6 +39,7 @@ meets-wires x t m = all-from (wireHolds (t .word)) (x .literals) (λ l i. one l 
     one : (l : Literal) → T (holds t l) → T (wireHolds (t .word) l)
     one (wire lo width v) h = h
     one (wire-store lo width s) h = tt
+    one (wire-past lo width) h = tt
     one (store s v) h = tt
 
 one-met : (m : Exp) → Unambiguous m → (t : Tick) (x y : Letter) → SideBySide m x y → T (meets x t) → T (meets y t) → x .number ≡ y .number

@@ -14,7 +14,7 @@ use borrow.Author.Tests.{ltb-true, ltb-false}
 use Rattle.meaning.specs.Lists.{_∈_, all, total}
 use Rattle.meaning.specs.Answers.{Answer, value, refused, letterOf}
 use Rattle.refusals.specs.Numbers.{longRun}
-use Rattle.meaning.specs.Expression.{Literal, wire, wire-store, store, Letter, field, Exp, letter, seq, alt, star, pipe, letters, size, rows, renumbered, Ordered}
+use Rattle.meaning.specs.Expression.{Literal, wire, wire-store, wire-past, store, Letter, field, Exp, letter, seq, alt, star, pipe, letters, size, rows, renumbered, Ordered}
 use Rattle.meaning.specs.Shape.{wireHolds, meetsWires, Unsatisfiable, Together, UnsatisfiableAt, AmbiguousAt}
 use Rattle.meaning.specs.ShapeTests.{Sized, SizedLetters, AllRead, Shape, accepted, turned-away, shape, unsatisfiable, ambiguous}
 use Rattle.meaning.specs.Reading.{read}
@@ -179,6 +179,7 @@ module _ (n k : ℕ) where
   sized-if : n ≤ 64 → (x : Literal) → Within n k x → Sized x
   sized-if b (wire lo w v) (g, h) = (g, omega arith)
   sized-if b (wire-store lo w s) g = tt
+  sized-if b (wire-past lo w) g = omega arith
   sized-if b (store s v) g = tt
 
   -- a word's wires are all that a literal within them sees
@@ -191,6 +192,7 @@ module _ (n k : ℕ) where
   cut : (w : ℕ) (x : Literal) → Within n k x → wireHolds (w % 2 ^ n) x ≡ wireHolds w x
   cut w (wire lo width v) (g, h) = ap (λ (z : ℕ). eqb z v) (field-cut lo width w h)
   cut w (wire-store lo width s) g = refl
+  cut w (wire-past lo width) g = refl
   cut w (store s v) g = refl
 
   cut-all : (w : ℕ) (ls : List Literal) → Each (Within n k) ls → all (wireHolds (w % 2 ^ n)) ls ≡ all (wireHolds w) ls

@@ -1,6 +1,6 @@
 -- All that can come of judging a token: it is refused itself, a wide wire before it is, the text ends, or reading goes on, by what the token is. A proof on every step of
 -- reading goes by these cases. Assumes nothing.
-use mathlib.Core.Path.{_≡_, refl, subst}
+use mathlib.Core.Path.{_≡_, refl, sym, ap, subst}
 use mathlib.Core.Bool.{Bool, true, false, cond, _&&_}
 use mathlib.Core.List.{List, [], _∷_, _++_}
 use mathlib.Core.Option.{Option, none, some}
@@ -8,17 +8,18 @@ use Prim.Native.Nat.{ℕ, suc, _+_, _^_, _≤_, _<_}
 use lib.Dec.{eqb, ltb}
 use lib.ListN.{length}
 use borrow.Author.Tests.{eqb-true, leb-false, ltb-false, not-true, not-false}
-use Rattle.lexer.specs.Bytes.{lookup}
+use Rattle.lexer.specs.Bytes.{same, lookup}
 use Rattle.lexer.specs.Signs.{semicolon, comma, atSign, star as asterisk, ampersand, bang, leftParen, rightParen, leftBracket, rightBracket, leftBrace, rightBrace, equals, doubleEquals, doubleBar, rightArrow, leftArrow}
 use Rattle.lexer.specs.Tokens as token
-use Rattle.lexer.specs.Tokens.{Token, Placed, tokens}
+use Rattle.lexer.specs.Tokens.{Token, Placed, tokens, ruleWords}
+use Rattle.lexer.proofs.Spelling.{same-eq}
 use Rattle.lexer.proofs.Bools.{and-left, and-right, or-left, or-right}
 use Rattle.meaning.specs.Names.{Declaration, Meaning, anInput, aStore, aDefine, aProduction, Names, noNames, newInput, newStore, newDefine, newProduction, declare, Program, programOf}
-use Rattle.meaning.specs.Expression.{Literal, wire, wire-store, store, Write, from-wire, from-number, Exp, star, storeTests, aLetter}
+use Rattle.meaning.specs.Expression.{Literal, wire, wire-store, wire-past, store, Write, from-wire, from-number, Exp, star, storeTests, aLetter}
 use Rattle.meaning.specs.Answers.{Answer, value, refused, byte}
 use Rattle.refusals.specs.Numbers.{overlong, unknown, twice, oversize, crowded}
 use Rattle.meaning.specs.Reading
-use Rattle.meaning.specs.Reading.{Level, newLevel, Open, onLevel, Context, inDefine, inLetter, Expect, statement, sign, nought, closing, inputName, inputMore, inputHigh, storeName, storeMore, storeHigh, storeFirst, defineName, operand, literal, negated, wireMore, bitIndex, wireEquals, storeEquals, literalMore, writeStore, writeValue, writeMore, operandMore, monitorName, monitorMore, textEnd, Step, go, finished, fault, choose, is, atToken, notHere, unless, ifName, ifNumber, onName, onNumber, byKind, known, newName, step, andThen, readOn, read, behindOperand, behindLiteral, literalName, tooMany, toZero, whole, behindWord}
+use Rattle.meaning.specs.Reading.{Level, newLevel, Open, onLevel, Context, inDefine, inLetter, Expect, statement, sign, nought, closing, inputName, inputMore, inputHigh, storeName, storeMore, storeHigh, storeFirst, defineName, operand, literal, negated, wireMore, bitIndex, wireEquals, storeEquals, pastName, literalMore, writeStore, writeValue, writeMore, operandMore, monitorName, monitorMore, textEnd, Step, go, finished, fault, choose, is, atToken, notHere, unless, ifName, ifNumber, onName, onNumber, byKind, known, newName, step, andThen, readOn, read, behindOperand, behindLiteral, literalName, tooMany, toZero, whole}
 use Rattle.meaning.specs.Grammar.{Stands, Free}
 use Rattle.meaning.proofs.ListLaws.{clash}
 use Rattle.meaning.proofs.Steps.{of-choose, of-kind, of-unless}
@@ -33,7 +34,7 @@ pub data LiteralNext : Expect → Context → List Literal → Type 0 where
 -- what stands behind the literals ls
 pub data BehindLiterals : Expect → Context → List Literal → Type 0 where
   literals : {c : Context} {ls : List Literal} → BehindLiterals (literalMore c ls) c ls
-  one-wire : {c : Context} {ls : List Literal} {lo w v p : ℕ} → w ≡ 1 → BehindLiterals (wireMore c ls lo w v p) c (ls ++ (wire lo 1 v ∷ []))
+  one-wire : {c : Context} {ls : List Literal} {s : List ℕ} {lo w v p : ℕ} → w ≡ 1 → BehindLiterals (wireMore c ls s lo w v p) c (ls ++ (wire lo 1 v ∷ []))
 
 -- what stands behind the operand e
 pub data BehindOperand : Expect → Open → Exp → Bool → Type 0 where
@@ -61,8 +62,8 @@ pub data BySign (ns : Names) : ℕ → Expect → Names → Expect → Type 0 wh
   opened : {o : Open} → length (o .outer) < 32 → BySign ns leftParen (operand o) ns (operand (record { name = o .name; level = newLevel; outer = o .level ∷ o .outer }))
   negation : {x : Expect} {c : Context} {ls : List Literal} → LiteralNext x c ls → BySign ns bang x ns (negated c ls)
   -- behind a wire's name
-  index : {c : Context} {ls : List Literal} {lo w v p : ℕ} → BySign ns leftBracket (wireMore c ls lo w v p) ns (bitIndex c ls lo w v)
-  compared : {c : Context} {ls : List Literal} {lo w v p : ℕ} → v ≡ 1 → BySign ns doubleEquals (wireMore c ls lo w v p) ns (wireEquals c ls lo w)
+  index : {c : Context} {ls : List Literal} {s : List ℕ} {lo w v p : ℕ} → BySign ns leftBracket (wireMore c ls s lo w v p) ns (bitIndex c ls lo w v)
+  compared : {c : Context} {ls : List Literal} {s : List ℕ} {lo w v p : ℕ} → v ≡ 1 → BySign ns doubleEquals (wireMore c ls s lo w v p) ns (wireEquals c ls s lo w)
   -- behind literals, and behind writes
   joined : {x : Expect} {c : Context} {ls : List Literal} → BehindLiterals x c ls → BySign ns ampersand x ns (literal c ls)
   defined : {x : Expect} {s : List ℕ} {ls : List Literal} → BehindLiterals x (inDefine s) ls → BySign ns semicolon x (declare (newDefine s ls) ns) statement
@@ -90,7 +91,7 @@ pub data ByNumber (ns : Names) : ℕ → Expect → Expect → Type 0 where
   first-value : {v w : ℕ} {s : List ℕ} → v < 2 ^ w → ByNumber ns v (storeFirst s w) (closing (newStore s w v))
   -- in a literal, and in a write
   bit-index : {c : Context} {ls : List Literal} {i lo w v : ℕ} → i < w → ByNumber ns i (bitIndex c ls lo w v) (sign rightBracket (literalMore c (ls ++ (wire (lo + i) 1 v ∷ []))))
-  wire-value : {c : Context} {ls : List Literal} {lo w v : ℕ} → v < 2 ^ w → ByNumber ns v (wireEquals c ls lo w) (literalMore c (ls ++ (wire lo w v ∷ [])))
+  wire-value : {c : Context} {ls : List Literal} {s : List ℕ} {lo w v : ℕ} → v < 2 ^ w → ByNumber ns v (wireEquals c ls s lo w) (literalMore c (ls ++ (wire lo w v ∷ [])))
   store-value : {c : Context} {ls : List Literal} {n w v : ℕ} → v < 2 ^ w → ByNumber ns v (storeEquals c ls n w) (literalMore c (ls ++ (store n v ∷ [])))
   number-written : {o : Open} {ls : List Literal} {ws : List Write} {n w v : ℕ} → v < 2 ^ w
       → ByNumber ns v (writeValue o ls ws n w) (sign semicolon (writeMore o ls (ws ++ (from-number n v ∷ []))))
@@ -104,16 +105,18 @@ pub data ByName (ns : Names) (place : ℕ) (s : List ℕ) : Expect → Expect �
   new-production : Free ns s → ByName ns place s statement (sign rightArrow (operand (record { name = s; level = newLevel; outer = [] })))
   -- what begins a literal or an operand
   of-wire : {x : Expect} {c : Context} {ls : List Literal} {lo w : ℕ} → LiteralNext x c ls → Stands ns s (anInput lo w)
-      → ByName ns place s x (wireMore c ls lo w 1 place)
+      → ByName ns place s x (wireMore c ls s lo w 1 place)
   of-store : {x : Expect} {c : Context} {ls : List Literal} {n w : ℕ} → LiteralNext x c ls → Stands ns s (aStore n w) → tooMany c ls 1 ≡ false
       → ByName ns place s x (sign doubleEquals (storeEquals c ls n w))
   of-define : {x : Expect} {c : Context} {ls ds : List Literal} → LiteralNext x c ls → Stands ns s (aDefine ds) → tooMany c ls (storeTests ds) ≡ false
       → ByName ns place s x (literalMore c (ls ++ ds))
   of-production : {o : Open} {e : Exp} → Stands ns s (aProduction e) → ByName ns place s (operand o) (operandMore o e false)
   -- behind `!` and behind `==`
-  of-negated : {c : Context} {ls : List Literal} {lo w : ℕ} → Stands ns s (anInput lo w) → ByName ns place s (negated c ls) (wireMore c ls lo w 0 place)
-  equal-store : {c : Context} {ls : List Literal} {lo w n : ℕ} → Stands ns s (aStore n w) → tooMany c ls 1 ≡ false
-      → ByName ns place s (wireEquals c ls lo w) (literalMore c (ls ++ (wire-store lo w n ∷ [])))
+  of-negated : {c : Context} {ls : List Literal} {lo w : ℕ} → Stands ns s (anInput lo w) → ByName ns place s (negated c ls) (wireMore c ls s lo w 0 place)
+  equal-store : {c : Context} {ls : List Literal} {r : List ℕ} {lo w n : ℕ} → Stands ns s (aStore n w) → tooMany c ls 1 ≡ false
+      → ByName ns place s (wireEquals c ls r lo w) (literalMore c (ls ++ (wire-store lo w n ∷ [])))
+  -- behind `past(`
+  same-wire : {c : Context} {ls : List Literal} {lo w : ℕ} → ByName ns place s (pastName c ls s lo w) (sign rightParen (literalMore c (ls ++ (wire-past lo w ∷ []))))
   -- in a write, and of a monitor
   store-written : {x : Expect} {o : Open} {ls : List Literal} {ws : List Write} {n w : ℕ} → WriteNext x o ls ws → Stands ns s (aStore n w) → length ws < 2
       → ByName ns place s x (sign leftArrow (writeValue o ls ws n w))
@@ -121,18 +124,27 @@ pub data ByName (ns : Names) (place : ℕ) (s : List ℕ) : Expect → Expect �
       → ByName ns place s (writeValue o ls ws n w) (sign semicolon (writeMore o ls (ws ++ (from-wire n lo m ∷ []))))
   monitored : {ms : List Exp} {e : Exp} → Stands ns s (aProduction e) → length ms < 32 → ByName ns place s (monitorName ms) (monitorMore (ms ++ (e ∷ [])))
 
+pub data ByWord : token.Word → Expect → Expect → Type 0 where
+  -- what begins a statement
+  begins-input : ByWord token.input statement inputName
+  begins-store : ByWord token.internal statement storeName
+  begins-define : ByWord token.define statement defineName
+  begins-monitor : ByWord token.monitor statement (monitorName [])
+  -- behind `wire ==`
+  compared-past : {c : Context} {ls : List Literal} {s : List ℕ} {lo w : ℕ} → ByWord token.past (wireEquals c ls s lo w) (sign leftParen (pastName c ls s lo w))
+
 -- The token u at a place leads from x to y, with the names ms. Neither the end nor a knot leads anywhere.
 pub data Next (ns : Names) (place : ℕ) : Token → Expect → Names → Expect → Type 0 where
   by-sign : {k : ℕ} {x y : Expect} {ms : Names} → BySign ns k x ms y → Next ns place (token.sign k) x ms y
   by-number : {n : ℕ} {x y : Expect} → ByNumber ns n x y → Next ns place (token.number n) x ns y
   by-name : {s : List ℕ} {x y : Expect} → ByName ns place s x y → Next ns place (token.name s) x ns y
-  by-word : {w : token.Word} → Next ns place (token.word w) statement ns (behindWord w)
+  by-word : {w : token.Word} {x y : Expect} → ByWord w x y → Next ns place (token.word w) x ns y
 
 -- What can come of judging the token t where x is expected.
 pub data Outcome (ns : Names) (t : Placed) : Expect → Step → Type 0 where
   -- the token is refused, or with 6 the wide wire before it
   refusal : {x : Expect} {number : ℕ} → Outcome ns t x (fault number (t .place))
-  late : {c : Context} {ls : List Literal} {lo w v p : ℕ} → Outcome ns t (wireMore c ls lo w v p) (fault oversize p)
+  late : {c : Context} {ls : List Literal} {s : List ℕ} {lo w v p : ℕ} → Outcome ns t (wireMore c ls s lo w v p) (fault oversize p)
   -- the text ends, or reading goes on
   ended : {ms : List Exp} → t .token ≡ token.end → Outcome ns t (textEnd ms) (finished (programOf ns ms))
   goes : {u : Token} {x y : Expect} {ms : Names} → t .token ≡ u → Next ns (t .place) u x ms y → Outcome ns t x (go ms y)
@@ -146,6 +158,18 @@ is-token k (token.number n) e = clash (cc)
 is-token k (token.sign n) e = let h : k ≡ n = eqb-true k n e in cc
 is-token k token.end e = clash (cc)
 is-token k (token.refused n) e = clash (cc)
+
+past-token : (t : Token) → Reading.isPast t ≡ true → t ≡ token.word token.past
+past-token (token.name s) e = clash (cc)
+past-token (token.word token.input) e = clash (cc)
+past-token (token.word token.internal) e = clash (cc)
+past-token (token.word token.define) e = clash (cc)
+past-token (token.word token.monitor) e = clash (cc)
+past-token (token.word token.past) e = refl
+past-token (token.number n) e = clash (cc)
+past-token (token.sign n) e = clash (cc)
+past-token token.end e = clash (cc)
+past-token (token.refused n) e = clash (cc)
 
 -- where no `@` has been read
 no-left : (m : Option Exp) → Reading.isNone m ≡ true → m ≡ none
@@ -219,6 +243,12 @@ module _ {ns : Names} {t : Placed} {x : Expect} where
       on-name (λ n. byKind (lookup n (ns .declared)) i s ds p (atToken unknown t))
       (λ n h. of-kind (Outcome ns t x) (lookup n (ns .declared)) i s ds p (atToken unknown t) (pi n h) (ps n h) (pd n h) (pp n h) (own unknown))
 
+  -- a wire's name keeps its bytes
+  wire-goes : {c : Context} {ls : List Literal} {lo w v : ℕ} (n : List ℕ) → t .token ≡ token.name n → ByName ns (t .place) n x (wireMore c ls n lo w v (t .place))
+      → Outcome ns t x (go ns (wireMore c ls (Reading.spellingOf (t .token)) lo w v (t .place)))
+  wire-goes {c} {ls} {lo} {w} {v} n h y =
+      subst (λ s. Outcome ns t x (go ns (wireMore c ls s lo w v (t .place)))) (sym (ap Reading.spellingOf h)) (goes h (by-name y))
+
   on-new : (noWire full : Bool) (y : List ℕ → Expect) → ((s : List ℕ) → Free ns s → noWire ≡ false → full ≡ false → ByName ns (t .place) s x (y s))
       → Outcome ns t x (newName ns t noWire full (λ s. go ns (y s)))
   unfolding newName
@@ -255,7 +285,7 @@ module _ {ns : Names} {t : Placed} {x : Expect} where
       → ((n : List ℕ) → t .token ≡ token.name n → (e : Exp) → Stands ns n (aProduction e) → Outcome ns t x (pr e)) → Outcome ns t x (literalName ns c ls t pr)
   unfolding literalName
   literal-name c ls pr d f =
-      on-known _ _ _ _ (λ n h lo w e. goes h (by-name (of-wire d e))) (λ n h i w e. right _ crowded _ (λ k. goes h (by-name (of-store d e k))))
+      on-known _ _ _ _ (λ n h lo w e. wire-goes n h (of-wire d e)) (λ n h i w e. right _ crowded _ (λ k. goes h (by-name (of-store d e k))))
       (λ n h ds e. right _ crowded _ (λ k. goes h (by-name (of-define d e k)))) f
 
   write-name : (o : Open) (ls : List Literal) (ws : List Write) → WriteNext x o ls ws → Outcome ns t x (Reading.writtenStore ns o ls ws t)
@@ -266,7 +296,11 @@ module _ {ns : Names} {t : Placed} {x : Expect} where
 module _ {ns : Names} {t : Placed} where
   begins : (u : Token) → t .token ≡ u → Outcome ns t statement (Reading.begin ns t u)
   begins (token.name s) e = on-new false false _ (λ s f k l. new-production f)
-  begins (token.word w) e = goes e by-word
+  begins (token.word token.input) e = goes e (by-word begins-input)
+  begins (token.word token.internal) e = goes e (by-word begins-store)
+  begins (token.word token.define) e = goes e (by-word begins-define)
+  begins (token.word token.monitor) e = goes e (by-word begins-monitor)
+  begins (token.word token.past) e = elsewhere
   begins (token.number n) e = elsewhere
   begins (token.sign n) e = elsewhere
   begins token.end e = elsewhere
@@ -309,23 +343,28 @@ outcome ns t (operand o) =
 outcome ns t (literal c ls) =
     sign-to _ _ _ _ (negation more-literals) (literal-name c ls _ more-literals (λ n h e k. own _))
 outcome ns t (negated c ls) =
-    on-known _ _ _ _ (λ n h lo w e. goes h (by-name (of-negated e))) (λ n h a b e. own _)
+    on-known _ _ _ _ (λ n h lo w e. wire-goes n h (of-negated e)) (λ n h a b e. own _)
     (λ n h ds e. own _) (λ n h p e. own _)
-outcome ns t (wireMore c ls lo w v p) =
+outcome ns t (wireMore c ls s lo w v p) =
     sign-to _ _ _ _ index
     (on-sign _ _ _ (λ e.
-    of-choose (Outcome ns t (wireMore c ls lo w v p)) (eqb v 1) _ _ (λ k. goes e (by-sign (compared (eqb-true v 1 k)))) (λ k. elsewhere))
-    (of-choose (Outcome ns t (wireMore c ls lo w v p)) (eqb w 1) _ _ (λ k. behind-literal c _ (one-wire (eqb-true w 1 k)))
+    of-choose (Outcome ns t (wireMore c ls s lo w v p)) (eqb v 1) _ _ (λ k. goes e (by-sign (compared (eqb-true v 1 k)))) (λ k. elsewhere))
+    (of-choose (Outcome ns t (wireMore c ls s lo w v p)) (eqb w 1) _ _ (λ k. behind-literal c _ (one-wire (eqb-true w 1 k)))
     (λ k. late)))
 outcome ns t (bitIndex c ls lo w v) =
     on-number _ (λ i e. right _ oversize _ (λ k. goes e (by-number (bit-index (leb-false w i k)))))
-outcome ns t (wireEquals c ls lo w) =
+outcome ns t (wireEquals c ls s lo w) =
     if-number _ _ (λ v e.
     right _ oversize _ (λ k. goes e (by-number (wire-value (leb-false (2 ^ w) v k)))))
-    (on-known _ _ _ _ (λ n h a b e. own _)
+    (of-choose (Outcome ns t (wireEquals c ls s lo w)) (Reading.isPast (t .token)) _ _ (λ k. goes (past-token (t .token) k) (by-word compared-past)) (λ k.
+    on-known _ _ _ _ (λ n h a b e. own _)
     (λ n h i m e. right _ oversize _ (λ k. right _ crowded _ (λ l.
     goes h (by-name (equal-store (subst (λ z. Stands ns n (aStore i z)) (eqb-true m w (not-false (eqb m w) k)) e) l)))))
-    (λ n h ds e. own _) (λ n h p e. own _))
+    (λ n h ds e. own _) (λ n h p e. own _)))
+outcome ns t (pastName c ls s lo w) =
+    on-name _ (λ n h.
+    of-choose (Outcome ns t (pastName c ls s lo w)) (same n s) _ _
+    (λ k. goes (subst (λ m. t .token ≡ token.name m) (same-eq n s k) h) (by-name same-wire)) (λ k. elsewhere))
 outcome ns t (storeEquals c ls i w) =
     on-number _ (λ v e. right _ oversize _ (λ k. goes e (by-number (store-value (leb-false (2 ^ w) v k)))))
 outcome ns t (literalMore c ls) = behind-literal c ls literals
@@ -365,6 +404,6 @@ module _ (Kept : Names → Expect → Type 0) (Got : Program → Type 0)
   unfolding read
   kept text p k e = by (ltb 16384 (length text)) e
     where
-      by : (b : Bool) → cond b (refused overlong (byte 0)) (readOn noNames statement (tokens text)) ≡ value p → Got p
+      by : (b : Bool) → cond b (refused overlong (byte 0)) (readOn noNames statement (tokens ruleWords text)) ≡ value p → Got p
       by true f = clash (cc)
-      by false f = kept-on (tokens text) noNames statement p k f
+      by false f = kept-on (tokens ruleWords text) noNames statement p k f

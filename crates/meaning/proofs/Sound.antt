@@ -14,13 +14,13 @@ use Rattle.lexer.specs.Tokens as token
 use Rattle.lexer.specs.Tokens.{Token}
 use Rattle.lexer.proofs.Spelling.{same-eq, same-refl, lookup-nil, lookup-hit, lookup-miss}
 use Rattle.meaning.specs.Expression.{Literal, Write, Exp}
-use Rattle.meaning.specs.Reading.{Open, Context, inDefine, inLetter, Expect, statement, sign, nought, closing, inputName, inputMore, inputHigh, storeName, storeMore, storeHigh, storeFirst, defineName, operand, literal, negated, wireMore, bitIndex, wireEquals, storeEquals, literalMore, writeStore, writeValue, writeMore, operandMore, monitorName, monitorMore, textEnd, whole, behindWord}
+use Rattle.meaning.specs.Reading.{Open, Context, inDefine, inLetter, Expect, statement, sign, nought, closing, inputName, inputMore, inputHigh, storeName, storeMore, storeHigh, storeFirst, defineName, operand, literal, negated, wireMore, bitIndex, wireEquals, storeEquals, pastName, literalMore, writeStore, writeValue, writeMore, operandMore, monitorName, monitorMore, textEnd, whole}
 use Rattle.meaning.specs.Names.{Meaning, anInput, aStore, aDefine, aProduction, Names, noNames, Declaration, newInput, newStore, newDefine, newProduction, declare, withName}
 use Rattle.meaning.specs.Grammar.{Stands, Free}
 use Rattle.meaning.specs.Viable.{Spelled, HasInput, HasStore, HasProduction}
 use Rattle.meaning.proofs.ListLaws.{clash}
 use Rattle.meaning.proofs.FreeName.{New}
-use Rattle.meaning.proofs.Outcomes.{LiteralNext, more-literals, first-literal, BehindLiterals, literals, one-wire, BehindOperand, operands, letters, WriteNext, first-write, more-writes, BySign, expected, closed, narrow-input, wide-input, narrow-store, wide-store, opened, negation, index, compared, joined, defined, writing, written, starred, piped, followed, or-else, level-closed, produced, more-monitors, all-monitors, ByNumber, zero-read, input-width, store-width, first-value, bit-index, wire-value, store-value, number-written, ByName, new-input, new-store, new-define, new-production, of-wire, of-store, of-define, of-production, of-negated, equal-store, store-written, wire-written, monitored, Next, by-sign, by-number, by-name, by-word}
+use Rattle.meaning.proofs.Outcomes.{LiteralNext, more-literals, first-literal, BehindLiterals, literals, one-wire, BehindOperand, operands, letters, WriteNext, first-write, more-writes, BySign, expected, closed, narrow-input, wide-input, narrow-store, wide-store, opened, negation, index, compared, joined, defined, writing, written, starred, piped, followed, or-else, level-closed, produced, more-monitors, all-monitors, ByNumber, zero-read, input-width, store-width, first-value, bit-index, wire-value, store-value, number-written, ByName, new-input, new-store, new-define, new-production, of-wire, of-store, of-define, of-production, of-negated, equal-store, store-written, wire-written, monitored, Next, by-sign, by-number, by-name, by-word, same-wire, ByWord, begins-input, begins-store, begins-define, begins-monitor, compared-past}
 
 -- ---- a name more
 
@@ -176,10 +176,11 @@ ExpectSound ns defineName = Unit {0}
 ExpectSound ns (operand o) = OpenSound o
 ExpectSound ns (literal c ls) = ContextSound ns c
 ExpectSound ns (negated c ls) = ContextSound ns c
-ExpectSound ns (wireMore c ls lo width v place) = LiteralsSound ns c × (0 < width)
+ExpectSound ns (wireMore c ls s lo width v place) = LiteralsSound ns c × (0 < width) × Spelled (token.name s)
 ExpectSound ns (bitIndex c ls lo width v) = LiteralsSound ns c × (0 < width)
-ExpectSound ns (wireEquals c ls lo width) = LiteralsSound ns c
+ExpectSound ns (wireEquals c ls s lo width) = LiteralsSound ns c × Spelled (token.name s)
 ExpectSound ns (storeEquals c ls number width) = LiteralsSound ns c
+ExpectSound ns (pastName c ls s lo width) = LiteralsSound ns c × Spelled (token.name s)
 ExpectSound ns (literalMore c ls) = LiteralsSound ns c
 ExpectSound ns (writeStore o ls ws) = OpenSound o × (length ws < 2)
 ExpectSound ns (writeValue o ls ws number width) = OpenSound o
@@ -201,7 +202,7 @@ module _ (ns : Names) (names : NamesSound ns) where
 
   behind-literals : {x : Expect} {c : Context} {ls : List Literal} → BehindLiterals x c ls → ExpectSound ns x → LiteralsSound ns c
   behind-literals literals g = g
-  behind-literals (one-wire e) (g, h) = g
+  behind-literals (one-wire e) (g, h, r) = g
 
   behind-operand : {x : Expect} {o : Open} {e : Exp} {b : Bool} → BehindOperand x o e b → ExpectSound ns x → OpenSound o
   behind-operand operands g = g
@@ -220,8 +221,8 @@ module _ (ns : Names) (names : NamesSound ns) where
   sign-sound wide-store g = (names, g)
   sign-sound (opened few) g = (names, g)
   sign-sound (negation n) g = (names, literal-next n g)
-  sign-sound index g = (names, g)
-  sign-sound (compared e) (g, h) = (names, g)
+  sign-sound index (g, h, r) = (names, (g, h))
+  sign-sound (compared e) (g, h, r) = (names, (g, r))
   sign-sound (joined n) g = (names, behind-literals n g .0)
   sign-sound (defined {s} {ls} n) g = (declare-sound ns names (newDefine s ls) (behind-literals n g), tt)
   sign-sound (writing n) g = (names, (behind-literals n g .0, omega arith))
@@ -241,7 +242,7 @@ module _ (ns : Names) (names : NamesSound ns) where
   number-sound (store-width k) g = (refl, (refl, (refl, g)))
   number-sound (first-value k) g = (g, tt)
   number-sound (bit-index k) (g, h) = (refl, g)
-  number-sound (wire-value k) g = g
+  number-sound (wire-value k) (g, r) = g
   number-sound (store-value k) g = g
   number-sound (number-written k) g = (refl, g)
 
@@ -251,28 +252,30 @@ module _ (ns : Names) (names : NamesSound ns) where
     name-sound (new-store f h) g = (f, spelled)
     name-sound (new-define f) g = (refl, (f, spelled))
     name-sound (new-production f) g = (refl, spelled)
-    name-sound (of-wire {lo} {w} n e) g = ((literal-next n g, root ns names s _ e), names .inputs s lo w e)
+    name-sound (of-wire {lo} {w} n e) g = ((literal-next n g, root ns names s _ e), names .inputs s lo w e, spelled)
     name-sound (of-store n e k) g = (refl, (literal-next n g, root ns names s _ e))
     name-sound (of-define n e k) g = (literal-next n g, root ns names s _ e)
     name-sound (of-production e) g = g
-    name-sound (of-negated {lo} {w} e) g = ((g, root ns names s _ e), names .inputs s lo w e)
-    name-sound (equal-store e k) g = g
+    name-sound (of-negated {lo} {w} e) g = ((g, root ns names s _ e), names .inputs s lo w e, spelled)
+    name-sound (equal-store e k) (g, r) = g
+    name-sound same-wire (g, r) = (refl, g)
     name-sound (store-written n e k) g = (refl, write-next n g)
     name-sound (wire-written e k) g = (refl, g)
     name-sound (monitored e k) g = tt
 
-  word-sound : (w : token.Word) → ExpectSound ns (behindWord w)
-  word-sound token.input = tt
-  word-sound token.internal = tt
-  word-sound token.define = tt
-  word-sound token.monitor = tt
+  word-sound : {w : token.Word} {x y : Expect} → ByWord w x y → ExpectSound ns x → ExpectSound ns y
+  word-sound begins-input g = tt
+  word-sound begins-store g = tt
+  word-sound begins-define g = tt
+  word-sound begins-monitor g = tt
+  word-sound compared-past g = (refl, g)
 
 -- It holds while the tokens of a text are read.
 pub next-sound : {ns ms : Names} {place : ℕ} {u : Token} {x y : Expect} → Next ns place u x ms y → Spelled u → Sound ns x → Sound ms y
 next-sound (by-sign n) t (names, g) = sign-sound _ names n g
 next-sound (by-number n) t (names, g) = (names, number-sound _ names n g)
 next-sound (by-name {s} n) t (names, g) = (names, name-sound _ names s t n g)
-next-sound (by-word {w}) t (names, g) = (names, word-sound _ names w)
+next-sound (by-word n) t (names, g) = (names, word-sound _ names n g)
 
 pub none-sound : Sound noNames statement
 none-sound = (

@@ -11,13 +11,13 @@ use Rattle.lexer.specs.Tokens as token
 use Rattle.lexer.specs.Tokens.{Token, Placed}
 use Rattle.meaning.specs.Expression.{Literal, Write, Exp}
 use Rattle.meaning.specs.Answers.{value}
-use Rattle.meaning.specs.Reading.{Open, Context, inDefine, inLetter, Expect, statement, sign, nought, closing, inputName, inputMore, inputHigh, storeName, storeMore, storeHigh, storeFirst, defineName, operand, literal, negated, wireMore, bitIndex, wireEquals, storeEquals, literalMore, writeStore, writeValue, writeMore, operandMore, monitorName, monitorMore, textEnd, Step, andThen, readOn, behindWord}
+use Rattle.meaning.specs.Reading.{Open, Context, inDefine, inLetter, Expect, statement, sign, nought, closing, inputName, inputMore, inputHigh, storeName, storeMore, storeHigh, storeFirst, defineName, operand, literal, negated, wireMore, bitIndex, wireEquals, storeEquals, pastName, literalMore, writeStore, writeValue, writeMore, operandMore, monitorName, monitorMore, textEnd, Step, andThen, readOn}
 use Rattle.meaning.specs.Names.{aProduction, Names, Declaration, newInput, newStore, newDefine, newProduction, declare, Program}
 use Rattle.meaning.specs.Grammar.{plainTokens}
 use Rattle.meaning.specs.Viable
 use Rattle.meaning.specs.Viable.{Spelled, AllSpelled, HasLiteral, Ends, EndsIn, Spare, MonitorNext, Ample}
 use Rattle.meaning.proofs.ListLaws.{clash}
-use Rattle.meaning.proofs.Outcomes.{LiteralNext, more-literals, first-literal, BehindLiterals, literals, one-wire, BehindOperand, operands, letters, WriteNext, first-write, more-writes, BySign, expected, closed, narrow-input, wide-input, narrow-store, wide-store, opened, negation, index, compared, joined, defined, writing, written, starred, piped, followed, or-else, level-closed, produced, more-monitors, all-monitors, ByNumber, zero-read, input-width, store-width, first-value, bit-index, wire-value, store-value, number-written, ByName, new-input, new-store, new-define, new-production, of-wire, of-store, of-define, of-production, of-negated, equal-store, store-written, wire-written, monitored, Next, by-sign, by-number, by-name, by-word, Outcome, refusal, late, ended, goes, outcome}
+use Rattle.meaning.proofs.Outcomes.{LiteralNext, more-literals, first-literal, BehindLiterals, literals, one-wire, BehindOperand, operands, letters, WriteNext, first-write, more-writes, BySign, expected, closed, narrow-input, wide-input, narrow-store, wide-store, opened, negation, index, compared, joined, defined, writing, written, starred, piped, followed, or-else, level-closed, produced, more-monitors, all-monitors, ByNumber, zero-read, input-width, store-width, first-value, bit-index, wire-value, store-value, number-written, ByName, new-input, new-store, new-define, new-production, of-wire, of-store, of-define, of-production, of-negated, equal-store, store-written, wire-written, monitored, Next, by-sign, by-number, by-name, by-word, Outcome, refusal, late, ended, goes, outcome, same-wire, ByWord, begins-input, begins-store, begins-define, begins-monitor, compared-past}
 use Rattle.meaning.proofs.Sound.{meaningOf, one-more, stood, NoProduction, Sound, ExpectSound, next-sound}
 
 module _ (ns : Names) where
@@ -90,6 +90,7 @@ module _ (ns : Names) where
   name-spare s (of-production {e} k) h = inr (s, e, k)
   name-spare s (of-negated {lo} {w} e) h = ((s, lo, w, e), h)
   name-spare s (equal-store e k) h = h
+  name-spare s same-wire h = h
   name-spare s (store-written {n = i} {w} n e k) h = write-spare n
     where
       write-spare : {x : Expect} {o : Open} {ls : List Literal} {ws : List Write} → WriteNext x o ls ws → Spare ns x
@@ -98,17 +99,18 @@ module _ (ns : Names) where
   name-spare s (wire-written e k) h = tt
   name-spare s (monitored {e} k few) h = ((s, e, k), few)
 
-  word-spare : (w : token.Word) → Spare ns (behindWord w) → Ends 0 ns
-  word-spare token.input (r, w, h) = inr r
-  word-spare token.internal (r, w, h) = inr r
-  word-spare token.define (r, l, h) = inr r
-  word-spare token.monitor (p, few) = inl p
+  word-spare : {w : token.Word} {x y : Expect} → ByWord w x y → Spare ns y → Spare ns x
+  word-spare begins-input (r, w, h) = inr r
+  word-spare begins-store (r, w, h) = inr r
+  word-spare begins-define (r, l, h) = inr r
+  word-spare begins-monitor (p, few) = inl p
+  word-spare compared-past h = h
 
 next-spare : {ns ms : Names} {place : ℕ} {u : Token} {x y : Expect} → Next ns place u x ms y → ExpectSound ns x → Spare ms y → Spare ns x
 next-spare (by-sign n) g h = sign-spare _ n g h
 next-spare (by-number n) g h = number-spare _ n h
 next-spare (by-name {s} n) g h = name-spare _ s n h
-next-spare (by-word {w}) g h = word-spare _ w h
+next-spare (by-word n) g h = word-spare _ n h
 
 -- Names and limits are not in the way where what follows is read to the end.
 pub read-spare : (ts : List Placed) (ns : Names) (x : Expect) (p : Program) → AllSpelled (plainTokens ts) → Sound ns x → readOn ns x ts ≡ value p → Spare ns x
@@ -150,9 +152,10 @@ module _ {ns : Names} where
   ample (operand o) a = inr (a .production)
   ample (literal c ls) a = (inl (a .input), in-context c a)
   ample (negated c ls) a = (a .input, in-context c a)
-  ample (wireMore c ls lo w v p) a = in-context c a
+  ample (wireMore c ls s lo w v p) a = in-context c a
   ample (bitIndex c ls lo w v) a = in-context c a
-  ample (wireEquals c ls lo w) a = in-context c a
+  ample (wireEquals c ls s lo w) a = in-context c a
+  ample (pastName c ls s lo w) a = in-context c a
   ample (storeEquals c ls n w) a = in-context c a
   ample (literalMore c ls) a = in-context c a
   ample (writeStore o ls ws) a = a .store

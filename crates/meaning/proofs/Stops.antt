@@ -4,7 +4,7 @@ use mathlib.Core.Path.{_≡_, refl, _∙_, ap}
 use mathlib.Core.Bool.{Bool, true, false, cond}
 use mathlib.Core.List.{List, []}
 use Prim.Native.Nat.{ℕ}
-use Rattle.lexer.specs.Tokens.{Token, Placed, goesOn, tokenAt, tokensAt}
+use Rattle.lexer.specs.Tokens.{Token, Placed, goesOn, tokenAt, tokensAt, ruleWords}
 use Rattle.lexer.proofs.Order.{tokens-step}
 use Rattle.meaning.specs.Answers.{Answer}
 use Rattle.meaning.specs.Reading.{Expect, Step, go, finished, fault, step, andThen, readOn}
@@ -22,7 +22,7 @@ pub next-goes-on : {ns ms : Names} {place : ℕ} {u : Token} {x y : Expect} → 
 next-goes-on (by-sign n) = refl
 next-goes-on (by-number n) = refl
 next-goes-on (by-name n) = refl
-next-goes-on by-word = refl
+next-goes-on (by-word n) = refl
 
 -- At the end and at a knot reading stops, whatever is expected.
 halts : {ns : Names} {t : Placed} {x : Expect} {s : Step} → goesOn (t .token) ≡ false → Outcome ns t x s → Halts s
@@ -41,17 +41,17 @@ halted (fault number place) next more h = refl
 
 -- Reading from a position on is judging the token there, and reading on from the place behind it.
 pub read-from : (text : List ℕ) (at : ℕ) (ns : Names) (x : Expect)
-    → readOn ns x (tokensAt text at)
-    ≡ andThen (step ns x (tokenAt text at)) (λ ms y. readOn ms y (tokensAt text (tokenAt text at .after)))
+    → readOn ns x (tokensAt ruleWords text at)
+    ≡ andThen (step ns x (tokenAt ruleWords text at)) (λ ms y. readOn ms y (tokensAt ruleWords text (tokenAt ruleWords text at .after)))
 unfolding readOn
 read-from text at ns x =
-    ap (readOn ns x) (tokens-step text at) ∙ on (goesOn (tokenAt text at .token)) refl
+    ap (readOn ns x) (tokens-step ruleWords text at) ∙ on (goesOn (tokenAt ruleWords text at .token)) refl
   where
     more : Names → Expect → Answer Program
-    more ms y = readOn ms y (tokensAt text (tokenAt text at .after))
+    more ms y = readOn ms y (tokensAt ruleWords text (tokenAt ruleWords text at .after))
 
-    on : (b : Bool) → goesOn (tokenAt text at .token) ≡ b
-        → andThen (step ns x (tokenAt text at)) (λ ms y. readOn ms y (cond b (tokensAt text (tokenAt text at .after)) []))
-        ≡ andThen (step ns x (tokenAt text at)) more
+    on : (b : Bool) → goesOn (tokenAt ruleWords text at .token) ≡ b
+        → andThen (step ns x (tokenAt ruleWords text at)) (λ ms y. readOn ms y (cond b (tokensAt ruleWords text (tokenAt ruleWords text at .after)) []))
+        ≡ andThen (step ns x (tokenAt ruleWords text at)) more
     on true e = refl
-    on false e = halted (step ns x (tokenAt text at)) _ more (halts e (outcome ns (tokenAt text at) x))
+    on false e = halted (step ns x (tokenAt ruleWords text at)) _ more (halts e (outcome ns (tokenAt ruleWords text at) x))

@@ -9,7 +9,7 @@ use Prim.Native.Nat.{ℕ, zero, suc, _-_, _≤_, _<_}
 use native.Mathlib.Omega.{arith}
 use lib.ListN.{length}
 use borrow.Author.Tests.{le-ltb}
-use Rattle.lexer.specs.Tokens.{Token, Placed, goesOn, tokenAt, tokensFrom, tokensAt, tokens}
+use Rattle.lexer.specs.Tokens.{Token, Placed, goesOn, tokenAt, tokensFrom, tokensAt, tokens, ruleWords}
 use Rattle.lexer.proofs.Sized.{lies}
 use Rattle.lexer.proofs.Order.{from-step}
 use Rattle.meaning.specs.Answers.{value, refused, byte}
@@ -126,17 +126,17 @@ module _ (ps : List Placed) (spelled : AllSpelled (plainTokens ps)) where
 
 -- ---- the tokens of a text
 
-spelled-from : (k : ℕ) (s : List ℕ) (at : ℕ) → AllSpelled (plainTokens (tokensFrom k s at))
+spelled-from : (k : ℕ) (s : List ℕ) (at : ℕ) → AllSpelled (plainTokens (tokensFrom ruleWords k s at))
 unfolding tokensFrom
 spelled-from zero s at = tt
-spelled-from (suc k) s at = ((s, at, refl), by (goesOn (tokenAt s at .token)) (spelled-from k s (tokenAt s at .after)))
+spelled-from (suc k) s at = ((s, at, refl), by (goesOn (tokenAt ruleWords s at .token)) (spelled-from k s (tokenAt ruleWords s at .after)))
   where
-    by : (b : Bool) → AllSpelled (plainTokens (tokensFrom k s (tokenAt s at .after)))
-        → AllSpelled (plainTokens (elim b [ true ↦ tokensFrom k s (tokenAt s at .after) | false ↦ [] ]))
+    by : (b : Bool) → AllSpelled (plainTokens (tokensFrom ruleWords k s (tokenAt ruleWords s at .after)))
+        → AllSpelled (plainTokens (elim b [ true ↦ tokensFrom ruleWords k s (tokenAt ruleWords s at .after) | false ↦ [] ]))
     by true l = l
     by false l = tt
 
-spelled-in : (text : List ℕ) → AllSpelled (plainTokens (tokens text))
+spelled-in : (text : List ℕ) → AllSpelled (plainTokens (tokens ruleWords text))
 unfolding tokensAt
 spelled-in text = spelled-from _ text 0
 
@@ -145,9 +145,9 @@ abbrev Halted : List Token → Type 0
 Halted [] = ⊥
 Halted (u ∷ us) = goesOn u ≡ true → Halted us
 
-halted-from : (k : ℕ) (s : List ℕ) (at : ℕ) → length s - at < k → Halted (plainTokens (tokensFrom k s at))
+halted-from : (k : ℕ) (s : List ℕ) (at : ℕ) → length s - at < k → Halted (plainTokens (tokensFrom ruleWords k s at))
 halted-from zero s at h = absurd (omega arith)
-halted-from (suc k) s at h = rw (from-step k s at) (λ g. rw g (halted-from k s (tokenAt s at .after) (omega (arith, lies s at .grows g, lies s at .high))))
+halted-from (suc k) s at h = rw (from-step ruleWords k s at) (λ g. rw g (halted-from k s (tokenAt ruleWords s at .after) (omega (arith, lies ruleWords s at .grows g, lies ruleWords s at .high))))
 
 module _ (us : List Placed) where
   spelled-before : (ps : List Placed) → AllSpelled (plainTokens (ps ++ us)) → AllSpelled (plainTokens ps)
@@ -177,22 +177,22 @@ module _ (us : List Placed) where
       none [] e = refl
       none (q ∷ ps) e = clash (cc)
 
-spelled-first : (text : List ℕ) (ps us : List Placed) → tokens text ≡ ps ++ us → AllSpelled (plainTokens ps)
+spelled-first : (text : List ℕ) (ps us : List Placed) → tokens ruleWords text ≡ ps ++ us → AllSpelled (plainTokens ps)
 spelled-first text ps us e = spelled-before us ps (rw e at (spelled-in text))
 
 -- The first tokens of a text can be followed by others to a text of the grammar exactly if reading them comes to no refusal, and names and limits are not in the way then.
-pub viable-exactly : (text : List ℕ) (ps us : List Placed) → tokens text ≡ ps ++ us → Viable (plainTokens ps) ↔ Spared (feed noNames statement ps)
+pub viable-exactly : (text : List ℕ) (ps us : List Placed) → tokens ruleWords text ≡ ps ++ us → Viable (plainTokens ps) ↔ Spared (feed noNames statement ps)
 viable-exactly text ps us e =
     let l = spelled-first text ps us e in
     (needed ps l _ refl, enough ps l (ended-before us ps (rw e at (text-ended text))) _ refl)
 
 -- the tokens to the end, where names and limits are not in the way
-pub ending : (text : List ℕ) (ps us : List Placed) → tokens text ≡ ps ++ us → (ns : Names) (x : Expect) → feed noNames statement ps ≡ go ns x → Spare ns x
+pub ending : (text : List ℕ) (ps us : List Placed) → tokens ruleWords text ≡ ps ++ us → (ns : Names) (x : Expect) → feed noNames statement ps ≡ go ns x → Spare ns x
     → (f : Finish ns x) × (p : Program) × IsText noNames (plainTokens ps ++ tokensOf f) p
 ending text ps us e = end-of ps (spelled-first text ps us e)
 
 -- A token behind those that are read on leaves them so exactly if it is not refused, and names and limits are not in the way behind it.
-pub judged-exactly : (text : List ℕ) (ps : List Placed) (t : Placed) (us : List Placed) → tokens text ≡ ps ++ (t ∷ us)
+pub judged-exactly : (text : List ℕ) (ps : List Placed) (t : Placed) (us : List Placed) → tokens ruleWords text ≡ ps ++ (t ∷ us)
     → (ns : Names) (x : Expect) → feed noNames statement ps ≡ go ns x → Viable (plainTokens (ps ++ (t ∷ []))) ↔ Spared (step ns x t)
 judged-exactly text ps t us s ns x e =
     rw (feed-on ps t noNames ns statement x e) at (viable-exactly text (ps ++ (t ∷ [])) us (s ∙ sym (append-assoc ps (t ∷ []) us)))
@@ -201,7 +201,7 @@ judged-exactly text ps t us s ns x e =
 
 module _ (text : List ℕ) (number place : ℕ) where
   -- t is refused behind ps
-  refuses : (ps : List Placed) (t : Placed) (us : List Placed) (ns : Names) (x : Expect) → tokens text ≡ ps ++ (t ∷ us) → feed noNames statement ps ≡ go ns x
+  refuses : (ps : List Placed) (t : Placed) (us : List Placed) (ns : Names) (x : Expect) → tokens ruleWords text ≡ ps ++ (t ∷ us) → feed noNames statement ps ≡ go ns x
       → step ns x t ≡ fault number place → Refusal text number place
   refuses ps t us ns x s e f =
       record {
@@ -219,7 +219,7 @@ module _ (text : List ℕ) (number place : ℕ) where
       }
 
   -- one of ts is, behind ps
-  refuses-in : (ts ps : List Placed) (ns : Names) (x : Expect) → Halted (plainTokens ts) → tokens text ≡ ps ++ ts → feed noNames statement ps ≡ go ns x
+  refuses-in : (ts ps : List Placed) (ns : Names) (x : Expect) → Halted (plainTokens ts) → tokens ruleWords text ≡ ps ++ ts → feed noNames statement ps ≡ go ns x
       → readOn ns x ts ≡ refused number (byte place) → Refusal text number place
   unfolding readOn
   refuses-in [] ps ns x h s e f = absurd h
@@ -238,7 +238,7 @@ module _ (text : List ℕ) (number place : ℕ) where
 pub refused-exactly : (text : List ℕ) (number place : ℕ) → length text ≤ 16384 → (read text ≡ refused number (byte place)) ↔ Refusal text number place
 unfolding read feed tokensAt
 refused-exactly text number place h = (
-  λ e. refuses-in text number place (tokens text) [] noNames statement (halted-from _ text 0 (omega arith)) refl refl (rw (le-ltb 16384 (length text) h) at e),
+  λ e. refuses-in text number place (tokens ruleWords text) [] noNames statement (halted-from _ text 0 (omega arith)) refl refl (rw (le-ltb 16384 (length text) h) at e),
   λ r. read-kept text (r .before ++ (r .at ∷ [])) (r .behind) number place h (r .splits ∙ sym (append-assoc (r .before) (r .at ∷ []) (r .behind)))
       (feed-on (r .before) (r .at) noNames (r .names) statement (r .expects) (r .reads) ∙ r .judged),
 )

@@ -2,13 +2,13 @@
 use mathlib.Core.List.{List, [], _∷_, _++_, map}
 use mathlib.Core.Bool.{cond}
 use mathlib.Core.Option.{Option, none, some, Option·none-ne-some}
-use mathlib.Core.Path.{subst, _≡_, refl, sym, ap, _∙_, fun-ext}
+use mathlib.Core.Path.{subst, _≡_, refl, sym, ap, ap₂, _∙_, fun-ext}
 use Prim.Native.Nat.{ℕ, suc}
 use Rattle.meaning.specs.Lists.{carry, member}
 use Rattle.meaning.specs.Expression.{Exp, letters}
-use Rattle.meaning.specs.Fit.{History, start, tick, ok, bad, onward, judged, Tick, met, writeMet, write, verdict}
-use Rattle.meaning.specs.Positions.{Watch, ticked, answer, told, moved, movedBy, opened, Positions, at-start, on, go, Ticked, fine, wrong, goOn, goEach, writeEach, keptEach}
-use Rattle.meaning.proofs.ListLaws.{clash}
+use Rattle.meaning.specs.Fit.{History, start, tick, ok, bad, onward, history, judged, Tick, met, writeMet, write, verdict}
+use Rattle.meaning.specs.Positions.{Watch, seen, ticked, answer, told, moved, movedBy, opened, Positions, at-start, on, go, Ticked, fine, wrong, goOn, goEach, writeEach, keptEach}
+use Rattle.meaning.proofs.ListLaws.{carry-append, clash}
 use Rattle.meaning.proofs.Active.{then, positionsAfter}
 use Rattle.meaning.proofs.Monitor.{Accepted, same-member, positions-snoc, fits-yes, fits-no, positions-met}
 use Rattle.meaning.proofs.Sets.{Alike, go-alike, alike-back, go-inside, kept-in, in-kept}
@@ -71,11 +71,21 @@ all-right i (m ∷ ms) (x ∷ xs) ts t ac h =
     let (y, p, a) = h .0 in
     one-right i m ms ts t x y (ac .0) p a (go m x t) refl (goEach (suc i) ms xs t) (all-right (suc i) ms xs ts t (ac .1) (h .1))
 
+-- ---- the word before ----
+
+-- F22: it is the last of the words so far, and 0 before the first
+pub last-word : (ms : List Exp) (initial ws : List ℕ) (w : ℕ) → history ms initial (ws ++ w ∷ []) .last ≡ w
+unfolding onward
+last-word ms initial ws w = ap (λ h. h .last) (carry-append (onward ms) (start initial) ws (w ∷ []))
+
+pub no-word-yet : (ms : List Exp) (initial : List ℕ) → history ms initial [] .last ≡ 0
+no-word-yet ms initial = refl
+
 -- ---- one tick of the watch ----
 
 -- the watch v stands where the words of h lead
 abbrev pub Tracks : List Exp → History → Watch → Type 0
-Tracks ms h v = Tracked ms (h .ticks) (v .positions) × (h .stores ≡ v .stores)
+Tracks ms h v = Tracked ms (h .ticks) (v .positions) × (h .last ≡ v .last) × (h .stores ≡ v .stores)
 
 opened-tracked : (ms : List Exp) → Tracked ms [] (map (λ m. at-start) ms)
 unfolding positionsAfter
@@ -83,11 +93,14 @@ opened-tracked [] = tt
 opened-tracked (m ∷ ms) = ((at-start, refl, tt), opened-tracked ms)
 
 pub opened-tracks : (ms : List Exp) (initial : List ℕ) → Tracks ms (start initial) (opened ms initial)
-opened-tracks ms initial = (opened-tracked ms, refl)
+opened-tracks ms initial = (opened-tracked ms, refl, refl)
 
 module _ (ms : List Exp) (ac : AllAccepted ms) (h : History) (v : Watch) (tr : Tracks ms h v) (w : ℕ) where
+  same-tick : tick h w ≡ seen v w
+  same-tick = ap₂ (λ (b : ℕ) (σ : List ℕ). record { word = w; before = b; stores = σ }) (tr .1) (tr .2)
+
   ticked-right : Right 0 ms (h .ticks) (tick h w) (ticked ms v w)
-  ticked-right = subst (λ σ. Right 0 ms (h .ticks) (tick h w) (goEach 0 ms (v .positions) (record { word = w; stores = σ }))) (tr .1)
+  ticked-right = subst (λ t. Right 0 ms (h .ticks) (tick h w) (goEach 0 ms (v .positions) t)) same-tick
       (all-right 0 ms (v .positions) (h .ticks) (tick h w) ac (tr .0))
 
   -- it answers with the verdict
@@ -105,4 +118,4 @@ module _ (ms : List Exp) (ac : AllAccepted ms) (h : History) (v : Watch) (tr : T
     where
       by : (k : Ticked) → Right 0 ms (h .ticks) (tick h w) k → Tracks ms (onward ms h w) (movedBy ms v w k)
       by (wrong j) r = clash (cc)
-      by (fine nss) r = (r .1, sym (r .2 (h .stores)) ∙ ap (λ σ. writeEach (record { word = w; stores = σ }) ms nss σ) (tr .1))
+      by (fine nss) r = (r .1, refl, sym (r .2 (h .stores)) ∙ ap₂ (λ t σ. writeEach t ms nss σ) same-tick (tr .2))

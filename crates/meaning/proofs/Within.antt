@@ -14,14 +14,14 @@ use borrow.Author.Tests.{ltb-false}
 use Rattle.lexer.specs.Bytes.{Entry, same, lookup}
 use Rattle.lexer.specs.Tokens as token
 use Rattle.lexer.specs.Tokens.{Token}
-use Rattle.meaning.specs.Expression.{Literal, wire, wire-store, store, Write, from-wire, from-number, Exp, letter, seq, alt, star, pipe, storeTests}
+use Rattle.meaning.specs.Expression.{Literal, wire, wire-store, wire-past, store, Write, from-wire, from-number, Exp, letter, seq, alt, star, pipe, storeTests}
 use Rattle.meaning.specs.Answers.{value}
 use Rattle.meaning.specs.Reading
-use Rattle.meaning.specs.Reading.{Level, Open, Context, inDefine, inLetter, Expect, statement, sign, nought, closing, inputName, inputMore, inputHigh, storeName, storeMore, storeHigh, storeFirst, defineName, operand, literal, negated, wireMore, bitIndex, wireEquals, storeEquals, literalMore, writeStore, writeValue, writeMore, operandMore, monitorName, monitorMore, textEnd, read, tooMany, whole, behindWord}
+use Rattle.meaning.specs.Reading.{Level, Open, Context, inDefine, inLetter, Expect, statement, sign, nought, closing, inputName, inputMore, inputHigh, storeName, storeMore, storeHigh, storeFirst, defineName, operand, literal, negated, wireMore, bitIndex, wireEquals, storeEquals, pastName, literalMore, writeStore, writeValue, writeMore, operandMore, monitorName, monitorMore, textEnd, read, tooMany, whole}
 use Rattle.meaning.specs.Names.{Meaning, anInput, aStore, aDefine, aProduction, Names, Declaration, newInput, newStore, newDefine, newProduction, declare, Program}
 use Rattle.meaning.specs.Grammar.{Stands}
 use Rattle.meaning.proofs.ListLaws.{clash}
-use Rattle.meaning.proofs.Outcomes.{LiteralNext, more-literals, first-literal, BehindLiterals, literals, one-wire, BehindOperand, operands, letters, WriteNext, first-write, more-writes, BySign, expected, closed, narrow-input, wide-input, narrow-store, wide-store, opened, negation, index, compared, joined, defined, writing, written, starred, piped, followed, or-else, level-closed, produced, more-monitors, all-monitors, ByNumber, zero-read, input-width, store-width, first-value, bit-index, wire-value, store-value, number-written, ByName, new-input, new-store, new-define, new-production, of-wire, of-store, of-define, of-production, of-negated, equal-store, store-written, wire-written, monitored, Next, by-sign, by-number, by-name, by-word, kept}
+use Rattle.meaning.proofs.Outcomes.{LiteralNext, more-literals, first-literal, BehindLiterals, literals, one-wire, BehindOperand, operands, letters, WriteNext, first-write, more-writes, BySign, expected, closed, narrow-input, wide-input, narrow-store, wide-store, opened, negation, index, compared, joined, defined, writing, written, starred, piped, followed, or-else, level-closed, produced, more-monitors, all-monitors, ByNumber, zero-read, input-width, store-width, first-value, bit-index, wire-value, store-value, number-written, ByName, new-input, new-store, new-define, new-production, of-wire, of-store, of-define, of-production, of-negated, equal-store, store-written, wire-written, monitored, Next, by-sign, by-number, by-name, by-word, kept, same-wire, ByWord, begins-input, begins-store, begins-define, begins-monitor, compared-past}
 
 -- ---- lists
 
@@ -46,6 +46,7 @@ each-weaken P Q f (x ∷ xs) (p, ps) = (f x p, each-weaken P Q f xs ps)
 abbrev pub Within : (n k : ℕ) → Literal → Type 0
 Within n k (wire lo w v) = (v < 2 ^ w) × (lo + w ≤ n)
 Within n k (wire-store lo w s) = (lo + w ≤ n) × (s < k)
+Within n k (wire-past lo w) = lo + w ≤ n
 Within n k (store s v) = (s < k) × (v < 2 ^ 64)
 
 abbrev pub WriteWithin : (n k : ℕ) → Write → Type 0
@@ -87,6 +88,7 @@ module _ (n k m l : ℕ) (more : n ≤ m) (stores : k ≤ l) where
   literal-more : (x : Literal) → Within n k x → Within m l x
   literal-more (wire lo w v) (g, h) = (g, omega arith)
   literal-more (wire-store lo w s) (g, h) = (omega arith, omega arith)
+  literal-more (wire-past lo w) g = omega arith
   literal-more (store s v) (g, h) = (omega arith, h)
 
   write-more : (x : Write) → WriteWithin n k x → WriteWithin m l x
@@ -162,9 +164,10 @@ ExpectWithin n k defineName = Unit {0}
 ExpectWithin n k (operand o) = OpenWithin n k o
 ExpectWithin n k (literal c ls) = LiteralsWithin n k c ls 0
 ExpectWithin n k (negated c ls) = LiteralsWithin n k c ls 0
-ExpectWithin n k (wireMore c ls lo w v p) = LiteralsWithin n k c ls 0 × (lo + w ≤ n) × (v < 2)
+ExpectWithin n k (wireMore c ls s lo w v p) = LiteralsWithin n k c ls 0 × (lo + w ≤ n) × (v < 2)
 ExpectWithin n k (bitIndex c ls lo w v) = LiteralsWithin n k c ls 0 × (lo + w ≤ n) × (v < 2)
-ExpectWithin n k (wireEquals c ls lo w) = LiteralsWithin n k c ls 0 × (lo + w ≤ n)
+ExpectWithin n k (wireEquals c ls s lo w) = LiteralsWithin n k c ls 0 × (lo + w ≤ n)
+ExpectWithin n k (pastName c ls s lo w) = LiteralsWithin n k c ls 0 × (lo + w ≤ n)
 ExpectWithin n k (storeEquals c ls s w) = LiteralsWithin n k c ls 1 × (s < k) × (w ≤ 64)
 ExpectWithin n k (literalMore c ls) = LiteralsWithin n k c ls 0
 ExpectWithin n k (writeStore o ls ws) = OpenWithin n k o × LetterWithin n k ls ws
@@ -223,6 +226,7 @@ unfolding storeTests
 count-append [] ds = sym (zero-add _)
 count-append (wire lo w v ∷ ls) ds = count-append ls ds
 count-append (wire-store lo w s ∷ ls) ds = omega (arith, count-append ls ds)
+count-append (wire-past lo w ∷ ls) ds = count-append ls ds
 count-append (store s v ∷ ls) ds = omega (arith, count-append ls ds)
 
 few-if : (c : Context) (ls : List Literal) (more : ℕ) → tooMany c ls more ≡ false → Few c ls more
@@ -358,22 +362,24 @@ module _ (ns : Names) (names : NamesWithin ns) where
     by-name-within (of-negated {lo} {w} e) g = (g, stands-within (anInput lo w) e, omega arith)
     by-name-within (equal-store {c} {ls} {lo} {w} {n} e f) ((g, l, few), k) =
         literal-behind c ls (wire-store lo w n) (g, l, few-if c ls 1 f) (k, stands-within (aStore n w) e .0)
+    by-name-within (same-wire {c} {ls} {lo} {w}) (g, k) = literal-behind c ls (wire-past lo w) g k
     by-name-within (store-written {n} {w} d e h) g = let (o, l) = write-next d g in let (i, j) = stands-within (aStore n w) e in (o, l, h, i, j)
     by-name-within (wire-written {ls} {ws} {n} {lo} {m} e h) (o, g, few, b, l) =
         (o, write-behind ls ws (from-wire n lo m) g few (b, stands-within (anInput lo m) e))
     by-name-within (monitored {ms} {e} h f) g = each-more (ExpWithin (ns .wires) (storesOf ns)) ms e g (stands-within (aProduction e) h)
 
-within-word : (n k : ℕ) (w : token.Word) → ExpectWithin n k (behindWord w)
-within-word n k token.input = tt
-within-word n k token.internal = tt
-within-word n k token.define = tt
-within-word n k token.monitor = tt
+within-word : (n k : ℕ) {w : token.Word} {x y : Expect} → ByWord w x y → ExpectWithin n k x → ExpectWithin n k y
+within-word n k begins-input g = tt
+within-word n k begins-store g = tt
+within-word n k begins-define g = tt
+within-word n k begins-monitor g = tt
+within-word n k compared-past g = g
 
 next-within : {ns : Names} {place : ℕ} {u : Token} {x y : Expect} {ms : Names} → Next ns place u x ms y → Kept ns x → Kept ms y
 next-within (by-sign n) (names, g) = by-sign-within _ names n g
 next-within (by-number n) (names, g) = (names, by-number-within _ names n g)
 next-within (by-name {s} n) (names, g) = (names, by-name-within _ names s n g)
-next-within (by-word {w}) (names, g) = (names, within-word _ _ w)
+next-within (by-word n) (names, g) = (names, within-word _ _ n g)
 
 -- ---- the whole text
 

@@ -1,4 +1,4 @@
--- The shared list of examples: rule texts and words with their right sheets (docs/REFERENCE.md, P1 to P7), which the customer's specification gives.
+-- The shared list of examples: rule texts and words with their right sheets (docs/REFERENCE.md, P1 to P7), which the customer's specification and its requests give.
 -- Assumes nothing.
 use Prim.Native.Nat.{ℕ}
 use Prim.Native.String.{String}
@@ -65,5 +65,15 @@ misreadings =
     ∷ abc "a, a" (1 ∷ 1 ∷ []) "rows 3 letters 2\n0 0000000000000001 ok\n1 0000000000000001 ok\nclean 2\n"
     ∷ []
 
+-- G21 and F22: before tick 0 every wire was 0; a field that moved; another name inside, at its byte
+abbrev pub pasts : List Example
+pasts =
+    abc "a == past(a) & b" (2 ∷ []) "rows 1 letters 1\n0 0000000000000002 ok\nclean 1\n"
+    ∷ abc "a == past(a) & b" (3 ∷ []) "rows 1 letters 1\n0 0000000000000003 bad 0\n"
+    ∷ held "V & D == past(D) || !V" (10 ∷ 11 ∷ 13 ∷ [])
+    "rows 3 letters 2\n0 000000000000000a ok\n1 000000000000000b ok\n2 000000000000000d bad 0\n"
+    ∷ abc "a == past(b)" [] "refused 3 42\n"
+    ∷ []
+
 abbrev pub examples : List Example
-examples = proving ++ (sample ∷ misreadings)
+examples = proving ++ (sample ∷ misreadings ++ pasts)

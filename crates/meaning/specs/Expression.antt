@@ -6,11 +6,12 @@ use Prim.Native.Nat.{ℕ, suc, _+_, _/_, _%_, _^_}
 -- ---- letters ----
 
 -- G8: "It is `N` for a single wire, `N[i]` for a bit of any wire, either of them behind `!`, `wire == number`,
--- `wire == store`, `store == number`". N4: a wire has "the bits lo to lo+width-1 in the word"; a single wire or a bit is a
--- field of width 1 that is 1, or 0 with `!`.
+-- `wire == store`, `wire == past(wire)`, `store == number`". N4: a wire has "the bits lo to lo+width-1 in the word"; a
+-- single wire or a bit is a field of width 1 that is 1, or 0 with `!`.
 pub data Literal : Type 0 where
   wire : (lo width number : ℕ) → Literal  -- wire == number
   wire-store : (lo width store : ℕ) → Literal  -- wire == store
+  wire-past : (lo width : ℕ) → Literal  -- wire == past(wire)
   store : (store number : ℕ) → Literal  -- store == number
 
 -- G15: "A write is `store <- number;` .. or `store <- wire;`"
@@ -25,11 +26,12 @@ pub record Letter : Type 0 where
   pub literals : List Literal
   pub writes : List Write
 
--- N7: "literals `wire == store` and `store == number`"
+-- N7: "literals `wire == store` and `store == number`", and no others
 unfoldable pub storeTests : List Literal → ℕ
 storeTests [] = 0
 storeTests (wire lo width v ∷ ls) = storeTests ls
 storeTests (wire-store lo width s ∷ ls) = suc (storeTests ls)
+storeTests (wire-past lo width ∷ ls) = storeTests ls
 storeTests (store s v ∷ ls) = suc (storeTests ls)
 
 -- N4: "(w / 2^lo) mod 2^width"

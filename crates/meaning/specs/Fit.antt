@@ -1,17 +1,18 @@
--- What monitors mean (docs/REFERENCE.md, F1 to F21 and W6): which words fit, what each tick writes, and the verdict on each word.
+-- What monitors mean (docs/REFERENCE.md, F1 to F22 and W6): which words fit, what each tick writes, and the verdict on each word.
 use mathlib.Core.List.{List, [], _∷_, _++_, map}
 use mathlib.Core.Bool.{Bool, not, cond}
 use Prim.Native.Nat.{ℕ, zero, suc}
 use lib.Dec.{eqb}
 use lib.ListN.{length, getD, set}
 use Rattle.meaning.specs.Lists.{each, carry, all, null, only, member}
-use Rattle.meaning.specs.Expression.{Literal, wire, wire-store, store, Write, from-wire, from-number, Letter, field, Exp, letter, seq, alt, star, pipe, letters}
+use Rattle.meaning.specs.Expression.{Literal, wire, wire-store, wire-past, store, Write, from-wire, from-number, Letter, field, Exp, letter, seq, alt, star, pipe, letters}
 
 -- ---- a tick and its letters ----
 
--- F1: "There is one word a tick". A tick is its word, and the store values before it.
+-- F1: "There is one word a tick". A tick is its word, the word before it and the store values before it.
 pub record Tick : Type 0 where
   pub word : ℕ
+  pub before : ℕ
   pub stores : List ℕ
 
 -- F2: "A store has one value at a time"
@@ -22,6 +23,7 @@ valueOf stores s = getD stores s 0
 abbrev pub holds : Tick → Literal → Bool
 holds t (wire lo width v) = eqb (field lo width (t .word)) v
 holds t (wire-store lo width s) = eqb (field lo width (t .word)) (valueOf (t .stores) s)
+holds t (wire-past lo width) = eqb (field lo width (t .word)) (field lo width (t .before))
 holds t (store s v) = eqb (valueOf (t .stores) s) v
 
 -- F6: "all its literals hold at t"
@@ -112,17 +114,19 @@ write t σ (from-number s v) = set σ s v
 unfoldable pub writeMet : Tick → Exp → List ℕ → List ℕ → List ℕ
 writeMet t m ns σ = carry (λ s l. cond (member (l .number) ns) (carry (write t) s (l .writes)) s) σ (letters m)
 
--- The ticks so far, and the store values after them.
+-- The ticks so far, the word of the last one and the store values after them.
 pub record History : Type 0 where
   pub ticks : List Tick
+  pub last : ℕ
   pub stores : List ℕ
 
--- F2: "Before tick 0 it is the store's first value."
+-- F2: "Before tick 0 it is the store's first value." F22: "before tick 0 it is 0"
 abbrev pub start : List ℕ → History
-start initial = record { ticks = []; stores = initial }
+start initial = record { ticks = []; last = 0; stores = initial }
 
+-- F22: "The word before tick t is that of tick t-1"
 abbrev pub tick : History → ℕ → Tick
-tick h w = record { word = w; stores = h .stores }
+tick h w = record { word = w; before = h .last; stores = h .stores }
 
 -- one word more. F19: "The value of a store after tick t .. is its value before t, unless letters met at t, of whichever
 -- monitor, write it". F21: "the later monitor's stands".
@@ -130,6 +134,7 @@ unfoldable pub onward : List Exp → History → ℕ → History
 onward ms h w =
     record {
       ticks = h .ticks ++ tick h w ∷ [];
+      last = w;
       stores = carry (λ σ m. writeMet (tick h w) m (met m (h .ticks) (tick h w)) σ) (h .stores) ms;
     }
 

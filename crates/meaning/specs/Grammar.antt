@@ -1,4 +1,4 @@
--- The grammar of rule texts (docs/REFERENCE.md, G1 to G20 and N1 to N7), without an order of reading: what a list of tokens is, and what it means.
+-- The grammar of rule texts (docs/REFERENCE.md, G1 to G21 and N1 to N7), without an order of reading: what a list of tokens is, and what it means.
 -- `IsX ns ts us m` says that the tokens ts are an X that means m, and us behind it; ns are the names declared above. A form stands below those that it is made of, so that
 -- what G1 has first is the last here. Names, `declare` and the meanings are those of specs/Names; proofs/GrammarExact shows that a text is read as a program exactly
 -- if it is one by this grammar. Assumes nothing.
@@ -8,8 +8,8 @@ use mathlib.Core.Path.{_≡_}
 use Prim.Native.Nat.{ℕ, suc, _+_, _^_, _≤_, _<_}
 use lib.ListN.{length}
 use Rattle.lexer.specs.Bytes.{lookup}
-use Rattle.lexer.specs.Tokens.{Token, Placed, name, word, number, sign, end, input, internal, define, monitor, tokens}
-use Rattle.meaning.specs.Expression.{Literal, wire, wire-store, store, Write, from-wire, from-number, Exp, seq, alt, star, pipe, storeTests, aLetter}
+use Rattle.lexer.specs.Tokens.{Token, Placed, name, word, number, sign, end, input, internal, define, monitor, past, ruleWords, tokens}
+use Rattle.meaning.specs.Expression.{Literal, wire, wire-store, wire-past, store, Write, from-wire, from-number, Exp, seq, alt, star, pipe, storeTests, aLetter}
 use Rattle.lexer.specs.Signs.{semicolon, comma, atSign, star as asterisk, ampersand, bang, leftParen, rightParen, leftBracket, rightBracket, leftBrace, rightBrace, colon, equals, doubleEquals, doubleBar, rightArrow, leftArrow}
 use Rattle.meaning.specs.Names.{Meaning, anInput, aStore, aDefine, aProduction, Names, noNames, Declaration, newInput, newStore, newDefine, newProduction, declare, Program}
 
@@ -43,6 +43,9 @@ pub data IsLiteral (ns : Names) : List Token → List Token → List Literal →
   -- wire == store; G12: "a store of the same width"
   wire-equals-store : {s r : List ℕ} {lo width n : ℕ} {us : List Token} → Stands ns s (anInput lo width) → Stands ns r (aStore n width)
       → IsLiteral ns (name s ∷ sign doubleEquals ∷ name r ∷ us) us (wire-store lo width n ∷ [])
+  -- wire == past(wire); G21: "the same name as outside, letter for letter"
+  wire-equals-past : {s : List ℕ} {lo width : ℕ} {us : List Token} → Stands ns s (anInput lo width)
+      → IsLiteral ns (name s ∷ sign doubleEquals ∷ word past ∷ sign leftParen ∷ name s ∷ sign rightParen ∷ us) us (wire-past lo width ∷ [])
   -- store == number; G13: "a number that fits the store's width"
   store-equals-number : {s : List ℕ} {n width v : ℕ} {us : List Token} → Stands ns s (aStore n width) → v < 2 ^ width
       → IsLiteral ns (name s ∷ sign doubleEquals ∷ number v ∷ us) us (store n v ∷ [])
@@ -158,4 +161,4 @@ plainTokens ps = map (λ t. t .token) ps
 
 -- G1: "A text is a `text` of this grammar.": its bytes are the program p
 abbrev pub IsProgram : List ℕ → Program → Type 0
-IsProgram text p = IsText noNames (plainTokens (tokens text)) p
+IsProgram text p = IsText noNames (plainTokens (tokens ruleWords text)) p

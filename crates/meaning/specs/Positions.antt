@@ -99,14 +99,15 @@ go m (on ns) t = goAll (λ n. leave n (star m) stuck) ns t
 
 -- ---- the watch ----
 
--- The positions of each monitor, and the store values.
+-- The positions of each monitor, the word of the last tick and the store values.
 pub record Watch : Type 0 where
   pub positions : List Positions
+  pub last : ℕ
   pub stores : List ℕ
 
--- W1: "the first values in its stores and each monitor at its start"
+-- W1: "the first values in its stores, 0 as the word before and each monitor at its start"
 abbrev pub opened : List Exp → List ℕ → Watch
-opened ms initial = record { positions = map (λ m. at-start) ms; stores = initial }
+opened ms initial = record { positions = map (λ m. at-start) ms; last = 0; stores = initial }
 
 -- One tick of all monitors: the letters met in each, or W6: "the lowest monitor that does not fit".
 pub data Ticked : Type 0 where
@@ -141,14 +142,14 @@ keptEach (m ∷ ms) [] = []
 keptEach (m ∷ ms) (ns ∷ nss) = on (kept m ns) ∷ keptEach ms nss
 
 abbrev pub seen : Watch → ℕ → Tick
-seen v w = record { word = w; stores = v .stores }
+seen v w = record { word = w; before = v .last; stores = v .stores }
 
 abbrev pub ticked : List Exp → Watch → ℕ → Ticked
 ticked ms v w = goEach 0 ms (v .positions) (seen v w)
 
 -- the watch after the tick (W7); after a bad one, W8: "in all else as before the call"
 abbrev pub movedBy : List Exp → Watch → ℕ → Ticked → Watch
-movedBy ms v w (fine nss) = record { positions = keptEach ms nss; stores = writeEach (seen v w) ms nss (v .stores) }
+movedBy ms v w (fine nss) = record { positions = keptEach ms nss; last = w; stores = writeEach (seen v w) ms nss (v .stores) }
 movedBy ms v w (wrong i) = v
 
 abbrev pub moved : List Exp → Watch → ℕ → Watch

@@ -7,12 +7,12 @@ use mathlib.Core.Option.{Option, none, some}
 use Prim.Native.Nat.{ℕ, suc, _+_, _^_}
 use lib.Dec.{eqb, leb, ltb}
 use lib.ListN.{length}
-use Rattle.lexer.specs.Bytes.{lookup}
+use Rattle.lexer.specs.Bytes.{same, lookup}
 use Rattle.lexer.specs.Signs.{semicolon, comma, atSign, star as asterisk, ampersand, bang, leftParen, rightParen, leftBracket, rightBracket, leftBrace, rightBrace, colon, equals, doubleEquals, doubleBar, rightArrow, leftArrow}
 use Rattle.lexer.specs.Tokens as token
-use Rattle.lexer.specs.Tokens.{Token, Placed, tokens}
+use Rattle.lexer.specs.Tokens.{Token, Placed, ruleWords, tokens}
 use Rattle.meaning.specs.Names.{Meaning, anInput, aStore, aDefine, aProduction, Names, noNames, Declaration, newInput, newStore, newDefine, newProduction, declare, Program, programOf}
-use Rattle.meaning.specs.Expression.{storeTests, aLetter, Literal, wire, wire-store, store, Write, from-wire, from-number, Exp, seq, alt, star, pipe}
+use Rattle.meaning.specs.Expression.{storeTests, aLetter, Literal, wire, wire-store, wire-past, store, Write, from-wire, from-number, Exp, seq, alt, star, pipe}
 use Rattle.meaning.specs.Answers.{Answer, value, refused, byte}
 use Rattle.refusals.specs.Numbers.{overlong, misplaced, unknown, twice, oversize, crowded}
 
@@ -92,12 +92,14 @@ pub data Expect : Type 0 where
   -- a literal behind those there are, and its name behind `!`
   literal : Context → List Literal → Expect
   negated : Context → List Literal → Expect
-  -- behind the name of a wire, which has its place, and is to be `value` where it is a literal by itself
-  wireMore : Context → List Literal → (lo width value place : ℕ) → Expect
-  -- i of `N[i]`, and what a wire or a store is compared with
+  -- behind the name of a wire, which has its bytes and its place, and is to be `value` where it is a literal by itself
+  wireMore : Context → List Literal → List ℕ → (lo width value place : ℕ) → Expect
+  -- i of `N[i]`, and what a wire, whose name has these bytes, or a store is compared with
   bitIndex : Context → List Literal → (lo width value : ℕ) → Expect
-  wireEquals : Context → List Literal → (lo width : ℕ) → Expect
+  wireEquals : Context → List Literal → List ℕ → (lo width : ℕ) → Expect
   storeEquals : Context → List Literal → (number width : ℕ) → Expect
+  -- the same wire's name behind `past(`
+  pastName : Context → List Literal → List ℕ → (lo width : ℕ) → Expect
   -- behind a literal
   literalMore : Context → List Literal → Expect
   -- the name of a written store, what is written, and behind a write
@@ -158,6 +160,18 @@ ifName (token.number n) then other = other
 ifName (token.sign n) then other = other
 ifName token.end then other = other
 ifName (token.refused n) then other = other
+
+abbrev pub isPast : Token → Bool
+isPast (token.name s) = false
+isPast (token.word token.input) = false
+isPast (token.word token.internal) = false
+isPast (token.word token.define) = false
+isPast (token.word token.monitor) = false
+isPast (token.word token.past) = true
+isPast (token.number n) = false
+isPast (token.sign n) = false
+isPast token.end = false
+isPast (token.refused n) = false
 
 -- X4: "A reserved word is no name: where a name is wanted it is 3."
 unfoldable pub onName : Placed → (List ℕ → Step) → Step
@@ -220,6 +234,15 @@ abbrev pub tooMany : Context → List Literal → ℕ → Bool
 tooMany (inDefine s) ls more = false
 tooMany (inLetter o) ls more = ltb 2 (storeTests ls + more)
 
+-- the bytes of a name; none for any other token, of which they are not asked
+abbrev pub spellingOf : Token → List ℕ
+spellingOf (token.name s) = s
+spellingOf (token.word w) = []
+spellingOf (token.number n) = []
+spellingOf (token.sign n) = []
+spellingOf token.end = []
+spellingOf (token.refused n) = []
+
 -- a literal more
 abbrev pub withLiteral : Names → Context → List Literal → Literal → Step
 withLiteral ns c ls l = go ns (literalMore c (ls ++ (l ∷ [])))
@@ -229,7 +252,7 @@ withLiteral ns c ls l = go ns (literalMore c (ls ++ (l ∷ [])))
 unfoldable pub literalName : Names → Context → List Literal → Placed → (Exp → Step) → Step
 literalName ns c ls t pr =
     known ns t
-    (λ lo width. go ns (wireMore c ls lo width 1 (t .place)))
+    (λ lo width. go ns (wireMore c ls (spellingOf (t .token)) lo width 1 (t .place)))
     (λ s width. unless (tooMany c ls 1) crowded t (go ns (sign doubleEquals (storeEquals c ls s width))))
     (λ ds. unless (tooMany c ls (storeTests ds)) crowded t (go ns (literalMore c (ls ++ ds))))
     pr
@@ -288,24 +311,22 @@ writtenStore ns o ls ws t =
 abbrev pub toZero : Expect → Expect
 toZero x = sign colon (nought (sign rightBracket x))
 
--- what is expected behind a word that begins a statement
-abbrev pub behindWord : token.Word → Expect
-behindWord token.input = inputName
-behindWord token.internal = storeName
-behindWord token.define = defineName
-behindWord token.monitor = monitorName []
-
-abbrev pub ofWord : Names → token.Word → Step
-ofWord ns w = go ns (behindWord w)
+-- a word that begins a statement; `past` begins none
+abbrev pub ofWord : Names → Placed → token.Word → Step
+ofWord ns t token.input = go ns inputName
+ofWord ns t token.internal = go ns storeName
+ofWord ns t token.define = go ns defineName
+ofWord ns t token.monitor = go ns (monitorName [])
+ofWord ns t token.past = notHere t
 
 -- the name of a production begins its statement; X5: 5 "before it is seen whether `->` follows"
 abbrev pub ofProduction : Names → Placed → Step
 ofProduction ns t = newName ns t false false (λ s. go ns (sign rightArrow (operand (record { name = s; level = newLevel; outer = [] }))))
 
--- X8: "a statement's beginning | a reserved word; a name, for a production"
+-- X8: "a statement's beginning | a reserved word but `past`; a name, for a production"
 abbrev pub begin : Names → Placed → Token → Step
 begin ns t (token.name s) = ofProduction ns t
-begin ns t (token.word w) = ofWord ns w
+begin ns t (token.word w) = ofWord ns t w
 begin ns t (token.number n) = notHere t
 begin ns t (token.sign n) = notHere t
 begin ns t token.end = notHere t
@@ -321,7 +342,8 @@ atEnd ns ms t token.end = finished (programOf ns ms)
 atEnd ns ms t (token.refused n) = notHere t
 
 -- X8: "What may stand at each place of a text, and the faults that an allowed token can have there". The places of 6 are those of X6. At `wireMore`, G10: "A wire wider
--- than one, with or without `!`, is bare if the next token, be it a knot or the end, is neither `[` nor `==`: refusal 6 at its name."; G9: "`!N == ..` is no literal".
+-- than one, with or without `!`, is bare if the next token, be it a knot or the end, is neither `[` nor `==`: refusal 6 at its name."; G9: "`!N == ..` is no literal". At
+-- `pastName`, X4: "Behind `past(` X8 allows no kind but one spelling, and every other name is 3 there."
 unfoldable pub step : Names → Expect → Placed → Step
 step ns statement t = begin ns t (t .token)
 step ns (sign k x) t = choose (is k t) (go ns x) (notHere t)
@@ -344,18 +366,21 @@ step ns (operand o) t =
     (literalName ns (inLetter o) [] t (λ e. go ns (operandMore o e false))))
 step ns (literal c ls) t = choose (is bang t) (go ns (negated c ls)) (literalName ns c ls t (noExp t))
 step ns (negated c ls) t =
-    known ns t (λ lo width. go ns (wireMore c ls lo width 0 (t .place))) (noPair t) (noLiterals t) (noExp t)
-step ns (wireMore c ls lo width v p) t =
+    known ns t (λ lo width. go ns (wireMore c ls (spellingOf (t .token)) lo width 0 (t .place))) (noPair t) (noLiterals t) (noExp t)
+step ns (wireMore c ls s lo width v p) t =
     choose (is leftBracket t) (go ns (bitIndex c ls lo width v))
-    (choose (is doubleEquals t) (choose (eqb v 1) (go ns (wireEquals c ls lo width)) (notHere t))
+    (choose (is doubleEquals t) (choose (eqb v 1) (go ns (wireEquals c ls s lo width)) (notHere t))
     (choose (eqb width 1) (behindLiteral ns c (ls ++ (wire lo 1 v ∷ [])) t) (fault oversize p)))
 step ns (bitIndex c ls lo width v) t =
     onNumber t (λ i. unless (leb width i) oversize t (go ns (sign rightBracket (literalMore c (ls ++ (wire (lo + i) 1 v ∷ []))))))
-step ns (wireEquals c ls lo width) t =
+step ns (wireEquals c ls s lo width) t =
     ifNumber (t .token) (λ v. unless (leb (2 ^ width) v) oversize t (withLiteral ns c ls (wire lo width v)))
+    (choose (isPast (t .token)) (go ns (sign leftParen (pastName c ls s lo width)))
     (known ns t (noPair t)
-    (λ s w. unless (not (eqb w width)) oversize t (unless (tooMany c ls 1) crowded t (withLiteral ns c ls (wire-store lo width s))))
-    (noLiterals t) (noExp t))
+    (λ n w. unless (not (eqb w width)) oversize t (unless (tooMany c ls 1) crowded t (withLiteral ns c ls (wire-store lo width n))))
+    (noLiterals t) (noExp t)))
+step ns (pastName c ls s lo width) t =
+    onName t (λ n. choose (same n s) (go ns (sign rightParen (literalMore c (ls ++ (wire-past lo width ∷ []))))) (notHere t))
 step ns (storeEquals c ls s width) t =
     onNumber t (λ v. unless (leb (2 ^ width) v) oversize t (withLiteral ns c ls (store s v)))
 step ns (literalMore c ls) t = behindLiteral ns c ls t
@@ -388,4 +413,4 @@ readOn ns x (t ∷ ts) = andThen (step ns x t) (λ ms y. readOn ms y ts)
 
 -- T1: "a text with more is refusal 1"; X2: "Refusal 1 comes before all others."
 unfoldable pub read : List ℕ → Answer Program
-read text = cond (ltb 16384 (length text)) (refused overlong (byte 0)) (readOn noNames statement (tokens text))
+read text = cond (ltb 16384 (length text)) (refused overlong (byte 0)) (readOn noNames statement (tokens ruleWords text))

@@ -6,7 +6,7 @@ use mathlib.Core.Logic.{_⊎_}
 use Prim.Native.Nat.{ℕ, _+_, _^_, _<_, _≤_}
 use lib.Dec.{T, eqb}
 use Rattle.meaning.specs.Lists.{_∈_, all, only}
-use Rattle.meaning.specs.Expression.{Literal, wire, wire-store, store, Letter, field, Exp, letter, seq, alt, star, pipe, letters}
+use Rattle.meaning.specs.Expression.{Literal, wire, wire-store, wire-past, store, Letter, field, Exp, letter, seq, alt, star, pipe, letters}
 
 -- ---- what can come first, last and next ----
 
@@ -53,10 +53,11 @@ threads (pipe e f) = f ∷ threads e ++ threads f
 
 -- ---- rule 9 and rule 12: words that meet a letter's wire literals ----
 
--- S9: "tests of stores are passed over"
+-- S9: "tests of stores and of the word before are passed over"
 abbrev pub wireHolds : ℕ → Literal → Bool
 wireHolds w (wire lo width v) = eqb (field lo width w) v
 wireHolds w (wire-store lo width s) = true
+wireHolds w (wire-past lo width) = true
 wireHolds w (store s v) = true
 
 unfoldable pub meetsWires : Letter → ℕ → Bool

@@ -7,7 +7,7 @@ use Prim.Native.Nat.{ℕ, _+_, _-_, _^_, _<_, _≤_, min}
 use lib.Dec.{eqb, leb, ltb}
 use Rattle.refusals.specs.Numbers.{impossible, hollow, openEnd, fork}
 use Rattle.meaning.specs.Lists.{_∈_, each, any, all, null, only, below}
-use Rattle.meaning.specs.Expression.{Literal, wire, wire-store, store, Letter, bit, Exp, star, letters, Ordered}
+use Rattle.meaning.specs.Expression.{Literal, wire, wire-store, wire-past, store, Letter, bit, Exp, star, letters, Ordered}
 use Rattle.meaning.specs.Shape.{nullable, first, last, follow, threads, parts, head}
 
 -- S8: the groups of letters side by side. S6: "In a monitor as a whole its first letters come next after its last ones",
@@ -19,6 +19,7 @@ groups m = map first (m ∷ threads m) ++ map (λ l. follow (l .number) (star m)
 abbrev pub Sized : Literal → Type 0
 Sized (wire lo width v) = (v < 2 ^ width) × (lo + width ≤ 64)
 Sized (wire-store lo width s) = Unit {0}
+Sized (wire-past lo width) = lo + width ≤ 64
 Sized (store s v) = Unit {0}
 
 abbrev pub AllSized : List Literal → Type 0
@@ -31,6 +32,7 @@ SizedLetters m = (l : Letter) → l ∈ letters m → AllSized (l .literals)
 abbrev pub asks : (i b : ℕ) → Literal → Bool
 asks i b (wire lo width v) = leb lo i && ltb i (lo + width) && eqb (bit (i - lo) v) b
 asks i b (wire-store lo width s) = false
+asks i b (wire-past lo width) = false
 asks i b (store s v) = false
 
 -- the bits of a word

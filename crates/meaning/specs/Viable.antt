@@ -7,16 +7,16 @@ use mathlib.Core.List.{List, [], _∷_, _++_}
 use mathlib.Core.Logic.{_⊎_, _↔_}
 use Prim.Native.Nat.{ℕ, suc, _+_, _≤_, _<_}
 use lib.ListN.{length}
-use Rattle.lexer.specs.Tokens.{Token, Placed, tokenAt, tokens}
+use Rattle.lexer.specs.Tokens.{Token, Placed, ruleWords, tokenAt, tokens}
 use Rattle.refusals.specs.Numbers.{oversize}
 use Rattle.meaning.specs.Expression.{Literal, Exp, storeTests}
-use Rattle.meaning.specs.Reading.{Context, inDefine, inLetter, Expect, statement, sign, nought, closing, inputName, inputMore, inputHigh, storeName, storeMore, storeHigh, storeFirst, defineName, operand, literal, negated, wireMore, bitIndex, wireEquals, storeEquals, literalMore, writeStore, writeValue, writeMore, operandMore, monitorName, monitorMore, textEnd, Step, go, finished, fault, tooMany, step}
+use Rattle.meaning.specs.Reading.{Context, inDefine, inLetter, Expect, statement, sign, nought, closing, inputName, inputMore, inputHigh, storeName, storeMore, storeHigh, storeFirst, defineName, operand, literal, negated, wireMore, bitIndex, wireEquals, storeEquals, pastName, literalMore, writeStore, writeValue, writeMore, operandMore, monitorName, monitorMore, textEnd, Step, go, finished, fault, tooMany, step}
 use Rattle.meaning.specs.Names.{anInput, aStore, aDefine, aProduction, Names, noNames, Program}
 use Rattle.meaning.specs.Grammar.{Stands, IsText, plainTokens}
 
 -- A token that a text can have: it stands in one.
 abbrev pub Spelled : Token → Type 0
-Spelled u = (text : List ℕ) × (at : ℕ) × (tokenAt text at .token ≡ u)
+Spelled u = (text : List ℕ) × (at : ℕ) × (tokenAt ruleWords text at .token ≡ u)
 
 abbrev pub AllSpelled : List Token → Type 0
 AllSpelled [] = Unit {0}
@@ -79,11 +79,12 @@ Spare ns defineName = Room 1 ns × HasLiteral ns (inDefine []) [] × Ends 1 ns
 Spare ns (operand o) = HasLiteral ns (inLetter o) [] ⊎ HasProduction ns
 Spare ns (literal c ls) = HasLiteral ns c ls × EndsIn ns c
 Spare ns (negated c ls) = HasInput ns × EndsIn ns c
--- within a literal and behind one nothing more is needed, since 0 is a bit and a value of every wire and every store
-Spare ns (wireMore c ls lo width v place) = EndsIn ns c
+-- within a literal and behind one nothing more is needed, since 0 is a bit and a value of every wire and every store, and behind `past(` the wire's own name can stand
+Spare ns (wireMore c ls s lo width v place) = EndsIn ns c
 Spare ns (bitIndex c ls lo width v) = EndsIn ns c
-Spare ns (wireEquals c ls lo width) = EndsIn ns c
+Spare ns (wireEquals c ls s lo width) = EndsIn ns c
 Spare ns (storeEquals c ls number width) = EndsIn ns c
+Spare ns (pastName c ls s lo width) = EndsIn ns c
 Spare ns (literalMore c ls) = EndsIn ns c
 -- a store to write
 Spare ns (writeStore o ls ws) = HasStore ns
@@ -135,14 +136,14 @@ feed ns x (t ∷ ts) = feedOn (step ns x t) (λ ms y. feed ms y ts)
 
 -- the place of a wire's name that the next token may still blame
 pub data Pending : Expect → ℕ → Type 0 where
-  bare-wire : {c : Context} {ls : List Literal} {lo w v p : ℕ} → Pending (wireMore c ls lo w v p) p
+  bare-wire : {c : Context} {ls : List Literal} {s : List ℕ} {lo w v p : ℕ} → Pending (wireMore c ls s lo w v p) p
 
 -- A text is refused at a token: those before it are read on, and it is judged at fault.
 pub record Refusal (text : List ℕ) (number place : ℕ) : Type 0 where
   pub before : List Placed
   pub at : Placed
   pub behind : List Placed
-  pub splits : tokens text ≡ before ++ (at ∷ behind)
+  pub splits : tokens ruleWords text ≡ before ++ (at ∷ behind)
   pub names : Names
   pub expects : Expect
   pub reads : feed noNames statement before ≡ go names expects

@@ -48,16 +48,19 @@ use Rattle.monitor.proofs.Numbered.{programOf}
 use Rattle.monitor.proofs.LetterRows.{HeldAll}
 use Rattle.monitor.proofs.Program
 
--- a tick's word and store values
-abbrev at : (word : ℕ) → (stores : List ℕ) → Tick
-at w σ = record { word = w; stores = σ }
+-- a tick's word, the one before it and the store values
+abbrev at : (word before : ℕ) → (stores : List ℕ) → Tick
+at w b σ = record { word = w; before = b; stores = σ }
+
+abbrev two : (word before : ℕ) → List ℕ
+two w b = w ∷ b ∷ []
 
 -- the letters' numbers in a watch test and write as the letters do
 record LettersRight (o : Opened) : Type 0 where
-  pub tests : (m : Exp) → m ∈ programOf o → (x : Letter) → x ∈ letters m → (σ : List ℕ) → length σ ≡ length (o .initial) → (w : ℕ)
-      → letterMet (givenOf (watchOf (value o)) (padded σ) w) (x .number) ≡ meets x (at w σ)
-  pub writes : (m : Exp) → m ∈ programOf o → (x : Letter) → x ∈ letters m → (σ : List ℕ) → length σ ≡ length (o .initial) → (ρ : List ℕ) → length ρ ≡ length (o .initial) → (w : ℕ)
-      → writeLetter (givenOf (watchOf (value o)) (padded σ) w) (x .number) (padded ρ) ≡ padded (carry (write (at w σ)) ρ (x .writes))
+  pub tests : (m : Exp) → m ∈ programOf o → (x : Letter) → x ∈ letters m → (σ : List ℕ) → length σ ≡ length (o .initial) → (w b : ℕ)
+      → letterMet (givenOf (watchOf (value o)) (padded σ) (two w b)) (x .number) ≡ meets x (at w b σ)
+  pub writes : (m : Exp) → m ∈ programOf o → (x : Letter) → x ∈ letters m → (σ : List ℕ) → length σ ≡ length (o .initial) → (ρ : List ℕ) → length ρ ≡ length (o .initial) → (w b : ℕ)
+      → writeLetter (givenOf (watchOf (value o)) (padded σ) (two w b)) (x .number) (padded ρ) ≡ padded (carry (write (at w b σ)) ρ (x .writes))
 
 -- ---- letters
 
@@ -96,21 +99,22 @@ module _ (text : List ℕ) (o : Opened) (e : openText text ≡ value o) (m : Exp
         agreed = subst (λ ls. T (agree ls)) r (a .agreed);
       })
 
-  letter-given : (σ : List ℕ) (w : ℕ) → LetterGiven (givenOf (watchOf (value o)) σ w) (x .number) x
+  letter-given : (σ w : List ℕ) → LetterGiven (givenOf (watchOf (value o)) σ w) (x .number) x
   letter-given σ w =
       let a = Program.letters-stand o (Program.text-counted text o e) m i x j in
       record {
         looks = a .look;
         wants = a .want;
+        helds = a .held;
         links = λ k h. a .links k h ∙ slot-at slotWord refl (slotsOf x) k;
         numbers = λ k h. a .numbers k h ∙ slot-at slotNumber refl (slotsOf x) k;
       }
 
 letters-right : (text : List ℕ) (o : Opened) → openText text ≡ value o → LettersRight o
 letters-right text o e = record {
-  tests = λ m i x j σ l w. letter-met (givenOf (watchOf (value o)) (padded σ) w) (x .number) x σ (letter-given text o e m i x j (padded σ) w) (readable text o e m i x j σ l) refl;
-  writes = λ m i x j σ l ρ k w.
-      letter-writes (givenOf (watchOf (value o)) (padded σ) w) (x .number) x σ (letter-given text o e m i x j (padded σ) w) (readable text o e m i x j σ l) (at w σ) refl ρ (k ∙ sym l);
+  tests = λ m i x j σ l w b. letter-met (givenOf (watchOf (value o)) (padded σ) (two w b)) (x .number) x σ (letter-given text o e m i x j (padded σ) (two w b)) (readable text o e m i x j σ l) refl;
+  writes = λ m i x j σ l ρ k w b.
+      letter-writes (givenOf (watchOf (value o)) (padded σ) (two w b)) (x .number) x σ (letter-given text o e m i x j (padded σ) (two w b)) (readable text o e m i x j σ l) (at w b σ) refl ρ (k ∙ sym l);
 }
 
 -- ---- where each monitor stands
@@ -183,39 +187,39 @@ module _ (text : List ℕ) (o : Opened) (e : openText text ≡ value o) where
       standing v (Program.tableOf o) (o .rowCount) (let f = c .few-rows in omega (arith, f)) (Program.rows-counted o c)
       (λ i h. Program.places-low o c i (subst (λ (z : ℕ). i < z) (Program.letters-counted o c) h)) 0 0 0 (o .monitors) (Program.program-held o c) (Program.program-laid o c)
 
-  module _ (σ : List ℕ) (long : length σ ≡ length (o .initial)) (w : ℕ) where
+  module _ (σ : List ℕ) (long : length σ ≡ length (o .initial)) (w b : ℕ) where
     abbrev g : Given
-    g = givenOf v (padded σ) w
+    g = givenOf v (padded σ) (two w b)
 
-    coded : Coded (Program.tableOf o) g (at w σ) (o .rowCount)
+    coded : Coded (Program.tableOf o) g (at w b σ) (o .rowCount)
     unfolding v
-    coded = Program.program-coded o c g (at w σ) refl (λ m i x j. right .tests m i x j σ long w)
+    coded = Program.program-coded o c g (at w b σ) refl (λ m i x j. right .tests m i x j σ long w b)
 
     abbrev Good : List ℕ → Type 0
-    Good = Memory (rowsOf steps (Program.tableOf o) (at w σ)) (o .rowCount)
+    Good = Memory (rowsOf steps (Program.tableOf o) (at w b σ)) (o .rowCount)
 
     in-room : total size (o .monitors) ≤ 256
     in-room = let a = c .few-letters in let b = c .letters-are in omega (arith, a, b)
 
     step-from : (K : List ℕ) (xs : List machine.Positions) → MarksAll K 0 0 (o .monitors) xs
-        → Steps (o .monitors) (at w σ) σ padded (length (o .initial)) (machine.goEach 0 (o .monitors) xs (at w σ)) (stepWithin g (layoutOf v) K)
+        → Steps (o .monitors) (at w b σ) σ padded (length (o .initial)) (machine.goEach 0 (o .monitors) xs (at w b σ)) (stepWithin g (layoutOf v) K)
     unfolding v
     step-from K xs h =
-        steps-right Good (λ M p. p .long) (λ M p. p .bits) (memory-empty (rowsOf steps (Program.tableOf o) (at w σ)) (o .rowCount)) g (at w σ) (layoutOf v) K (o .monitors) ordered
+        steps-right Good (λ M p. p .long) (λ M p. p .bits) (memory-empty (rowsOf steps (Program.tableOf o) (at w b σ)) (o .rowCount)) g (at w b σ) (layoutOf v) K (o .monitors) ordered
         (Program.monitors-counted o c) (c .few-monitors) (Program.letters-counted o c ∙ sym (c .letters-are)) in-room
-        (writers-enough v (padded σ) w (total size (o .monitors)) in-room)
+        (writers-enough v (padded σ) (two w b) (total size (o .monitors)) in-room)
         xs σ padded (length (o .initial)) h long refl
-        (all-go Good g (at w σ) (Program.tableOf o) (o .rowCount) (layoutOf v) K
-        (λ r l e. asks-right (Program.tableOf o) g (at w σ) (o .rowCount) coded steps steps r l e (omega arith))
-        (λ r l e. leaves-right (Program.tableOf o) g (at w σ) (o .rowCount) coded steps steps r l e (omega arith))
+        (all-go Good g (at w b σ) (Program.tableOf o) (o .rowCount) (layoutOf v) K
+        (λ r l e. asks-right (Program.tableOf o) g (at w b σ) (o .rowCount) coded steps steps r l e (omega arith))
+        (λ r l e. leaves-right (Program.tableOf o) g (at w b σ) (o .rowCount) coded steps steps r l e (omega arith))
         0 0 0 (o .monitors) xs stands solid h)
-        (λ Q. all-write g (at w σ) Q padded (length (o .initial)) 0 (o .monitors) ordered (λ m i x j ρ d. right .writes m i x j σ long ρ d w))
+        (λ Q. all-write g (at w b σ) Q padded (length (o .initial)) 0 (o .monitors) ordered (λ m i x j ρ d. right .writes m i x j σ long ρ d w b))
 
   step-right : (s : Moving) (m : machine.Watch) → Like (o .monitors) padded (length (o .initial)) s m → (w : ℕ)
-      → Steps (o .monitors) (machine.seen m w) (m .stores) padded (length (o .initial)) (machine.ticked (o .monitors) m w) (stepWithin (givenOf v (s .values) w) (layoutOf v) (s .marks))
+      → Steps (o .monitors) (machine.seen m w) (m .stores) padded (length (o .initial)) (machine.ticked (o .monitors) m w) (stepWithin (givenOf v (s .values) (two w (s .last))) (layoutOf v) (s .marks))
   step-right s m l w =
-      subst (λ (z : List ℕ). Steps (o .monitors) (machine.seen m w) (m .stores) padded (length (o .initial)) (machine.ticked (o .monitors) m w) (stepWithin (givenOf v z w) (layoutOf v) (s .marks)))
-      (sym (l .values)) (step-from (m .stores) (l .long) w (s .marks) (m .positions) (l .marks))
+      subst₂ (λ (z : List ℕ) (b : ℕ). Steps (o .monitors) (machine.seen m w) (m .stores) padded (length (o .initial)) (machine.ticked (o .monitors) m w) (stepWithin (givenOf v z (two w b)) (layoutOf v) (s .marks)))
+      (sym (l .values)) (sym (l .last)) (step-from (m .stores) (l .long) w (m .last) (s .marks) (m .positions) (l .marks))
 
   -- at its opening it is like the machine
   start-like : Like (o .monitors) padded (length (o .initial)) (stateOf v .inner) (machine.opened (o .monitors) (o .initial))
@@ -223,6 +227,7 @@ module _ (text : List ℕ) (o : Opened) (e : openText text ≡ value o) where
   start-like = record {
     marks = starts (length (o .monitors)) (c .few-monitors) (o .monitors) refl (let a = c .few-letters in let b = c .letters-are in omega (arith, a, b));
     values = refl;
+    last = refl;
     long = refl;
   }
 
@@ -237,7 +242,8 @@ module _ (text : List ℕ) (o : Opened) (e : openText text ≡ value o) where
       (machine.opened (o .monitors) (o .initial)) start-like ws
       ∙ machine-right text o e ws
 
-  -- After any list of calls the watch has the tick count, the stop and the store values that the meaning fixes, zeros behind these; all else is as it was opened.
+  -- After any list of calls the watch has the tick count, the stop, the word before and the store values that the meaning fixes, zeros behind these; all else but the marks is
+  -- as it was opened.
   pub watch-held : (ws : List ℕ) → Held (watchOf (value o)) (watchAfterAll (watchOf (value o)) ws) (stood (o .monitors) (o .initial) (o .wires) ws)
   unfolding v watchOf
   watch-held ws =
@@ -250,5 +256,6 @@ module _ (text : List ℕ) (o : Opened) (e : openText text ≡ value o) where
         tables = w ∙ ap (withState v) (sym (ap stateOf w));
         ticks = ap (λ (u : Watch). u .ticks) w ∙ n ∙ k;
         stopped = ap (λ (u : Watch). u .stopped) w ∙ b ∙ q;
-        values = ap (λ (u : Watch). u .values) w ∙ l .values ∙ ap padded (sym (t .1));
+        before = ap (λ (u : Watch). u .before) w ∙ l .last ∙ sym (t .1);
+        values = ap (λ (u : Watch). u .values) w ∙ l .values ∙ ap padded (sym (t .2));
       }

@@ -8,9 +8,9 @@ use Rattle.lexer.specs.Tokens as token
 use Rattle.lexer.specs.Tokens.{Token}
 use Rattle.meaning.specs.Expression.{Exp}
 use Rattle.meaning.specs.Answers.{value}
-use Rattle.meaning.specs.Reading.{Expect, statement, sign, nought, closing, inputName, inputMore, inputHigh, storeName, storeMore, storeHigh, storeFirst, defineName, operand, literal, negated, wireMore, bitIndex, wireEquals, storeEquals, literalMore, writeStore, writeValue, writeMore, operandMore, monitorName, monitorMore, textEnd, read, behindWord}
+use Rattle.meaning.specs.Reading.{Expect, statement, sign, nought, closing, inputName, inputMore, inputHigh, storeName, storeMore, storeHigh, storeFirst, defineName, operand, literal, negated, wireMore, bitIndex, wireEquals, pastName, storeEquals, literalMore, writeStore, writeValue, writeMore, operandMore, monitorName, monitorMore, textEnd, read}
 use Rattle.meaning.specs.Names.{Names, Program}
-use Rattle.meaning.proofs.Outcomes.{BySign, expected, closed, narrow-input, wide-input, narrow-store, wide-store, opened, negation, index, compared, joined, defined, writing, written, starred, piped, followed, or-else, level-closed, produced, more-monitors, all-monitors, ByNumber, zero-read, input-width, store-width, first-value, bit-index, wire-value, store-value, number-written, ByName, new-input, new-store, new-define, new-production, of-wire, of-store, of-define, of-production, of-negated, equal-store, store-written, wire-written, monitored, Next, by-sign, by-number, by-name, by-word, kept}
+use Rattle.meaning.proofs.Outcomes.{BySign, expected, closed, narrow-input, wide-input, narrow-store, wide-store, opened, negation, index, compared, joined, defined, writing, written, starred, piped, followed, or-else, level-closed, produced, more-monitors, all-monitors, ByNumber, zero-read, input-width, store-width, first-value, bit-index, wire-value, store-value, number-written, ByName, new-input, new-store, new-define, new-production, of-wire, of-store, of-define, of-production, of-negated, equal-store, store-written, wire-written, monitored, Next, by-sign, by-number, by-name, by-word, kept, same-wire, ByWord, begins-input, begins-store, begins-define, begins-monitor, compared-past}
 
 abbrev Few : List Exp → Type 0
 Few ms = length ms ≤ 32
@@ -32,9 +32,10 @@ ExpectFew defineName = Unit {0}
 ExpectFew (operand o) = Unit {0}
 ExpectFew (literal c ls) = Unit {0}
 ExpectFew (negated c ls) = Unit {0}
-ExpectFew (wireMore c ls lo w v p) = Unit {0}
+ExpectFew (wireMore c ls s lo w v p) = Unit {0}
 ExpectFew (bitIndex c ls lo w v) = Unit {0}
-ExpectFew (wireEquals c ls lo w) = Unit {0}
+ExpectFew (wireEquals c ls s lo w) = Unit {0}
+ExpectFew (pastName c ls s lo w) = Unit {0}
 ExpectFew (storeEquals c ls s w) = Unit {0}
 ExpectFew (literalMore c ls) = Unit {0}
 ExpectFew (writeStore o ls ws) = Unit {0}
@@ -92,21 +93,23 @@ few-name (of-define d e f) h = tt
 few-name (of-production e) h = tt
 few-name (of-negated e) h = tt
 few-name (equal-store e f) h = tt
+few-name same-wire h = tt
 few-name (store-written d e f) h = tt
 few-name (wire-written e f) h = tt
 few-name (monitored {ms} {e} d f) h = omega (arith, length-append ms (e ∷ []))
 
-few-word : (w : token.Word) → ExpectFew (behindWord w)
-few-word token.input = tt
-few-word token.internal = tt
-few-word token.define = tt
-few-word token.monitor = omega arith
+few-word : {w : token.Word} {x y : Expect} → ByWord w x y → ExpectFew x → ExpectFew y
+few-word begins-input h = tt
+few-word begins-store h = tt
+few-word begins-define h = tt
+few-word begins-monitor h = omega arith
+few-word compared-past h = tt
 
 few-next : {ns ms : Names} {place : ℕ} {u : Token} {x y : Expect} → Next ns place u x ms y → ExpectFew x → ExpectFew y
 few-next (by-sign n) h = few-sign n h
 few-next (by-number n) h = few-number n h
 few-next (by-name n) h = few-name n h
-few-next (by-word {w}) h = few-word w
+few-next (by-word n) h = few-word n h
 
 -- ---- the whole text
 

@@ -80,34 +80,54 @@ four-slots : (f : Option Link → ℕ) (x : Letter) → length (map f (slotsOf x
 four-slots f x =
     omega (arith, length-map (slotsOf x) f, length-append (twoSlots (testsOn [] (x .literals))) (twoSlots (writesOn [] (x .writes))), two-long (testsOn [] (x .literals)), two-long (writesOn [] (x .writes)))
 
--- what a letter looks at and what it wants, in one list
-module _ (ls ws : List ℕ) (n i : ℕ) (h : i < 256) where
-  abbrev A : List ℕ
-  A = sets (replicate 256 0) 0 ls
+-- what a letter looks at, what it wants and what it holds, in one list
+module _ (ls ws hs : List ℕ) (n i : ℕ) (h : i < 256) where
+  abbrev each-one : List ℕ → List ℕ
+  each-one xs = sets (replicate 256 0) 0 xs
 
-  abbrev B : List ℕ
-  B = sets (replicate 256 0) 0 ws
-
-  abbrev C : List ℕ
-  C = sets (sets (replicate 1024 0) 0 A) 256 B
-
-  long : (xs : List ℕ) → length (sets (replicate 256 0) 0 xs) ≡ 256
+  long : (xs : List ℕ) → length (each-one xs) ≡ 256
   long xs = length-sets (replicate 256 0) 0 xs ∙ length-replicate {A = ℕ} 256 0
 
-  looked-at : getD (lettersOf A B n) i 0 ≡ getD A i 0
-  looked-at = getD-set-other C 512 i n 0 (λ e. omega (arith, e, h)) ∙ before (sets (replicate 1024 0) 0 A) 256 i B h ∙ stored-at 1024 A i (omega (arith, long ls)) (omega (arith, long ls))
+  -- the list with the first, and with the first two
+  abbrev one : List ℕ
+  one = sets (replicate 1024 0) 0 (each-one ls)
 
-  wanted : getD (lettersOf A B n) (256 + i) 0 ≡ getD B i 0
+  abbrev two : List ℕ
+  two = sets one 256 (each-one ws)
+
+  abbrev three : List ℕ
+  three = sets two 512 (each-one hs)
+
+  one-long : length one ≡ 1024
+  one-long = length-sets (replicate 1024 0) 0 (each-one ls) ∙ length-replicate {A = ℕ} 1024 0
+
+  two-longer : length two ≡ 1024
+  two-longer = length-sets one 256 (each-one ws) ∙ one-long
+
+  -- what stands from a place on
+  part : (L : List ℕ) (at : ℕ) (xs : List ℕ) → at + 256 ≤ length L → getD (sets L at (each-one xs)) (at + i) 0 ≡ getD (each-one xs) i 0
+  part L at xs l =
+      stands-at (λ j. getD (sets L at (each-one xs)) j 0) 0 at (each-one xs) i (omega (arith, long xs)) (stored-from L at (each-one xs) (omega (arith, long xs)))
+
+  looked-at : getD (lettersOf (each-one ls) (each-one ws) (each-one hs) n) i 0 ≡ getD (each-one ls) i 0
+  looked-at =
+      getD-set-other three 768 i n 0 (λ e. omega (arith, e, h)) ∙ before two 512 i (each-one hs) (omega (arith, h)) ∙ before one 256 i (each-one ws) h
+      ∙ stored-at 1024 (each-one ls) i (omega (arith, long ls)) (omega (arith, long ls))
+
+  wanted : getD (lettersOf (each-one ls) (each-one ws) (each-one hs) n) (256 + i) 0 ≡ getD (each-one ws) i 0
   wanted =
-      getD-set-other C 512 (256 + i) n 0 (λ e. omega (arith, e, h))
-      ∙ stands-at (λ j. getD C j 0) 0 256 B i (omega (arith, long ws))
-      (stored-from (sets (replicate 1024 0) 0 A) 256 B (omega (arith, long ws, length-sets (replicate 1024 0) 0 A, length-replicate {A = ℕ} 1024 0)))
+      getD-set-other three 768 (256 + i) n 0 (λ e. omega (arith, e, h)) ∙ before two 512 (256 + i) (each-one hs) (omega (arith, h))
+      ∙ part one 256 ws (omega (arith, one-long))
+
+  held-at : getD (lettersOf (each-one ls) (each-one ws) (each-one hs) n) (512 + i) 0 ≡ getD (each-one hs) i 0
+  held-at = getD-set-other three 768 (512 + i) n 0 (λ e. omega (arith, e, h)) ∙ part two 512 hs (omega (arith, two-longer))
 
 -- a letter's numbers stand at its own number
 pub record LetterStands (v : Watch) (x : Letter) : Type 0 where
   pub below : x .number < 256
-  pub look : getD (lettersOf (v .look) (v .want) (writersOf (v .links) 256)) (x .number) 0 ≡ masks.look (x .literals)
-  pub want : getD (lettersOf (v .look) (v .want) (writersOf (v .links) 256)) (256 + x .number) 0 ≡ masks.want (x .literals)
+  pub look : getD (lettersOf (v .look) (v .want) (v .held) (writersOf (v .links) 256)) (x .number) 0 ≡ masks.look (x .literals)
+  pub want : getD (lettersOf (v .look) (v .want) (v .held) (writersOf (v .links) 256)) (256 + x .number) 0 ≡ masks.want (x .literals)
+  pub held : getD (lettersOf (v .look) (v .want) (v .held) (writersOf (v .links) 256)) (512 + x .number) 0 ≡ masks.held (x .literals)
   pub links : (j : ℕ) → j < 4 → getD (v .links) (4 * x .number + j) 0 ≡ getD (map slotWord (slotsOf x)) j 0
   pub numbers : (j : ℕ) → j < 4 → getD (v .numbers) (4 * x .number + j) 0 ≡ getD (map slotNumber (slotsOf x)) j 0
 
@@ -130,10 +150,12 @@ all-letters gs o few r l m w vs e i x j =
     let low : x .number < 256 = omega (arith, numbers-below 0 gs o e i x j) in
     let looks = map (λ (y : Letter). masks.look (y .literals)) (each gs letters) in
     let wants = map (λ (y : Letter). masks.want (y .literals)) (each gs letters) in
+    let helds = map (λ (y : Letter). masks.held (y .literals)) (each gs letters) in
     record {
       below = low;
-      look = looked-at looks wants _ (x .number) low ∙ single (each gs letters) c n x k (λ y. masks.look (y .literals));
-      want = wanted looks wants _ (x .number) low ∙ single (each gs letters) c n x k (λ y. masks.want (y .literals));
+      look = looked-at looks wants helds _ (x .number) low ∙ single (each gs letters) c n x k (λ y. masks.look (y .literals));
+      want = wanted looks wants helds _ (x .number) low ∙ single (each gs letters) c n x k (λ y. masks.want (y .literals));
+      held = held-at looks wants helds _ (x .number) low ∙ single (each gs letters) c n x k (λ y. masks.held (y .literals));
       links = slots (each gs letters) c n x k slotWord;
       numbers = slots (each gs letters) c n x k slotNumber;
     }

@@ -7,9 +7,8 @@ use borrow.Author.Tests.{eq-eqb, ne-eqb}
 use lib.Dec.{eqb}
 use lib.Bits.{bitAnd}
 use lib.ListN.{getD, set}
-use Rattle.masks.specs.Wires.{passes}
 use Rattle.words.specs.Words.{part0, part1, part2}
-use Rattle.monitor.specs.Letters.{Given, linkValue, testMet, letterMet, writeSlot, writeLetter}
+use Rattle.monitor.specs.Letters.{Given, linkValue, testMet, wiresMet, pastMet, letterMet, writeSlot, writeLetter}
 
 -- ---- choices
 
@@ -59,21 +58,24 @@ module _ (g : Given) (slot : ℕ) where
 
 -- ---- a letter
 
-pub misses : (g : Given) (l : ℕ) (b : Bool) → b ≡ passes (getD (g .letters) l 0) (getD (g .letters) (256 + l) 0) (g .word) → b ≡ false → false ≡ letterMet g l
+pub misses : (g : Given) (l : ℕ) (a : Bool) → a ≡ wiresMet g l → a ≡ false → false ≡ letterMet g l
 unfolding letterMet
-misses g l b e f = neither (passes (getD (g .letters) l 0) (getD (g .letters) (256 + l) 0) (g .word)) _ (sym e ∙ f)
+misses g l a e f = neither (wiresMet g l) _ (sym e ∙ f)
 
-pub fails : (g : Given) (l : ℕ) (a b : Bool) → a ≡ passes (getD (g .letters) l 0) (getD (g .letters) (256 + l) 0) (g .word) → a ≡ true → b ≡ testMet g (4 * l) → b ≡ false
-    → false ≡ letterMet g l
-unfolding letterMet
-fails g l a b e f d h =
-    neither (testMet g (4 * l)) (testMet g (4 * l + 1)) (sym d ∙ h) ∙ both (passes (getD (g .letters) l 0) (getD (g .letters) (256 + l) 0) (g .word)) _ (sym e ∙ f)
+module _ (g : Given) (l : ℕ) (a : Bool) (e : a ≡ wiresMet g l) (f : a ≡ true) where
+  pub moves : (b : Bool) → b ≡ pastMet g l → b ≡ false → false ≡ letterMet g l
+  unfolding letterMet
+  moves b d h = neither (pastMet g l) _ (sym d ∙ h) ∙ both (wiresMet g l) _ (sym e ∙ f)
 
-pub meets : (g : Given) (l : ℕ) (a b c : Bool) → a ≡ passes (getD (g .letters) l 0) (getD (g .letters) (256 + l) 0) (g .word) → a ≡ true → b ≡ testMet g (4 * l) → b ≡ true
-    → c ≡ testMet g (4 * l + 1) → c ≡ letterMet g l
-unfolding letterMet
-meets g l a b c e f d h k =
-    k ∙ both (testMet g (4 * l)) (testMet g (4 * l + 1)) (sym d ∙ h) ∙ both (passes (getD (g .letters) l 0) (getD (g .letters) (256 + l) 0) (g .word)) _ (sym e ∙ f)
+  module _ (b : Bool) (d : b ≡ pastMet g l) (h : b ≡ true) where
+    pub fails : (c : Bool) → c ≡ testMet g (4 * l) → c ≡ false → false ≡ letterMet g l
+    unfolding letterMet
+    fails c p q = neither (testMet g (4 * l)) (testMet g (4 * l + 1)) (sym p ∙ q) ∙ both (pastMet g l) _ (sym d ∙ h) ∙ both (wiresMet g l) _ (sym e ∙ f)
+
+    pub meets : (c k : Bool) → c ≡ testMet g (4 * l) → c ≡ true → k ≡ testMet g (4 * l + 1) → k ≡ letterMet g l
+    unfolding letterMet
+    meets c k p q r =
+        r ∙ both (testMet g (4 * l)) (testMet g (4 * l + 1)) (sym p ∙ q) ∙ both (pastMet g l) _ (sym d ∙ h) ∙ both (wiresMet g l) _ (sym e ∙ f)
 
 pub writes : (g : Given) (l : ℕ) (σ τ υ : List ℕ) → τ ≡ writeSlot g (4 * l + 2) σ → υ ≡ writeSlot g (4 * l + 3) τ → υ ≡ writeLetter g l σ
 unfolding writeLetter

@@ -12,21 +12,21 @@ use lib.Pow.{shr-le}
 use lib.ListN.{length, getD, set, length-set}
 use borrow.Author.Tests.{eqb-false, ne-eqb}
 use Rattle.meaning.specs.Lists.{all, carry}
-use Rattle.meaning.specs.Expression.{Literal, wire, wire-store, store, Write, from-wire, from-number, Letter, field}
+use Rattle.meaning.specs.Expression.{Literal, wire, wire-store, wire-past, store, Write, from-wire, from-number, Letter, field}
 use Rattle.meaning.specs.Shape.{wireHolds}
 use Rattle.masks.specs.Wires.{passes}
-use Rattle.masks.specs.Masks.{look, want}
+use Rattle.masks.specs.Masks.{look, want, held}
 use Rattle.meaning.specs.Fit.{Tick, valueOf, holds, meets, write}
 use Rattle.lexer.proofs.Bools.{eqb-sym}
 use Rattle.meaning.proofs.ListLaws.{same-truth}
-use Rattle.masks.proofs.Masks.{meets-passes, passes-meets}
+use Rattle.masks.proofs.Masks.{meets-passes, passes-meets, pastHolds, held-exactly}
 use Rattle.meaning.proofs.Within.{Each, Within, WriteWithin}
 use Rattle.words.specs.Words.{quad, part0}
 use Rattle.rules.specs.Cells.{Link, link, testsOn, writeLink, writesOn}
 use Rattle.rules.specs.Laying.{ones, slotWord, slotNumber, twoSlots, slotsOf}
 use Rattle.words.proofs.Quads.{quad-1, quad-2}
 use Rattle.rules.proofs.Tested.{tests-length}
-use Rattle.monitor.specs.Letters.{Given, linkValue, testMet, letterMet, writeSlot, writeLetter}
+use Rattle.monitor.specs.Letters.{Given, linkValue, testMet, pastMet, letterMet, writeSlot, writeLetter}
 use Rattle.monitor.proofs.Padded.{padded, padded-get, padded-set}
 use Rattle.monitor.proofs.Readable.{Readable, Small}
 
@@ -34,6 +34,7 @@ use Rattle.monitor.proofs.Readable.{Readable, Small}
 pub record LetterGiven (g : Given) (i : ℕ) (x : Letter) : Type 0 where
   pub looks : getD (g .letters) i 0 ≡ look (x .literals)
   pub wants : getD (g .letters) (256 + i) 0 ≡ want (x .literals)
+  pub helds : getD (g .letters) (512 + i) 0 ≡ held (x .literals)
   pub links : (j : ℕ) → j < 4 → getD (g .links) (4 * i + j) 0 ≡ slotWord (getD (slotsOf x) j none)
   pub numbers : (j : ℕ) → j < 4 → getD (g .numbers) (4 * i + j) 0 ≡ slotNumber (getD (slotsOf x) j none)
 
@@ -121,7 +122,7 @@ SlotGiven g j o = (getD (g .links) j 0 ≡ slotWord o) × (getD (g .numbers) j 0
 
 module _ (g : Given) (k : ℕ) (few : k ≤ 16) (j : ℕ) where
   slot-test : (σ : List ℕ) → length σ ≤ 16 → g .values ≡ padded σ → (o : Option Link) → SlotFits k o → SlotGiven g j o
-      → testMet g j ≡ slotHolds (record { word = g .word; stores = σ }) o
+      → testMet g j ≡ slotHolds (record { word = g .word; before = g .before; stores = σ }) o
   slot-test σ short e none f (p, q) = rw p
   slot-test σ short e (some x) f (p, q) = rw (p, q, link-some k few x f, link-store k few x f, link-value k few x f (g .word), e, padded-get σ short (x .store))
 
@@ -153,15 +154,23 @@ and-apart false b c = refl
 to-front : (a b c : Bool) → (a && (b && c)) ≡ ((b && a) && c)
 to-front a b c = sym (and-apart a b c) ∙ ap (λ z. z && c) (and-swap a b)
 
--- the literals are met where the wire literals and the store tests are
+-- a literal that is none, behind those before, which come to two parts with the rest
+in-first : (a h c p q : Bool) → (a && c) ≡ (p && q) → (a && (h && c)) ≡ ((h && p) && q)
+in-first a h c p q e = to-front a h c ∙ and-apart h a c ∙ ap (λ z. h && z) e ∙ sym (and-apart h p q)
+
+in-second : (a h c p q r : Bool) → (a && c) ≡ (p && (q && r)) → (a && (h && c)) ≡ (p && ((h && q) && r))
+in-second a h c p q r e = in-first a h c p (q && r) e ∙ and-apart h p (q && r) ∙ to-front h p (q && r) ∙ and-apart p h (q && r) ∙ ap (λ z. p && z) (sym (and-apart h q r))
+
+-- the literals are met where the wire literals, those of the word before and the store tests are
 meets-parts : (t : Tick) (xs : List Link) (ls : List Literal)
-    → (all (linkHolds t) xs && all (holds t) ls) ≡ (all (wireHolds (t .word)) ls && all (linkHolds t) (testsOn xs ls))
+    → (all (linkHolds t) xs && all (holds t) ls) ≡ (all (wireHolds (t .word)) ls && (all (pastHolds (t .before) (t .word)) ls && all (linkHolds t) (testsOn xs ls)))
 unfolding testsOn
 meets-parts t xs [] = and-true _
 meets-parts t xs (wire lo width v ∷ ls) =
-    let h = eqb (field lo width (t .word)) v in
-    let a = all (linkHolds t) xs in
-    to-front a h (all (holds t) ls) ∙ and-apart h a (all (holds t) ls) ∙ ap (λ z. h && z) (meets-parts t xs ls) ∙ sym (and-apart h _ _)
+    in-first (all (linkHolds t) xs) (eqb (field lo width (t .word)) v) (all (holds t) ls) (all (wireHolds (t .word)) ls) _ (meets-parts t xs ls)
+meets-parts t xs (wire-past lo width ∷ ls) =
+    in-second (all (linkHolds t) xs) (eqb (field lo width (t .word)) (field lo width (t .before))) (all (holds t) ls) (all (wireHolds (t .word)) ls)
+    (all (pastHolds (t .before) (t .word)) ls) _ (meets-parts t xs ls)
 meets-parts t xs (wire-store lo width s ∷ ls) =
     let e : eqb (field lo width (t .word)) (valueOf (t .stores) s) ≡ linkHolds t (link s lo width 0)
     = eqb-sym (field lo width (t .word)) (valueOf (t .stores) s) ∙ ap (eqb (valueOf (t .stores) s)) (sym (field-means lo width (t .word))) in
@@ -179,6 +188,7 @@ module _ (n k : ℕ) (wires : n ≤ 64) where
   unfolding testsOn
   tests-fit xs [] f h = f
   tests-fit xs (wire lo w v ∷ ls) f (h, r) = tests-fit xs ls f r
+  tests-fit xs (wire-past lo w ∷ ls) f (h, r) = tests-fit xs ls f r
   tests-fit xs (wire-store lo w s ∷ ls) f (h, r) = tests-fit (link s lo w 0 ∷ xs) ls ((h .1, omega (arith, h .0)), f) r
   tests-fit xs (store s v ∷ ls) f (h, r) = tests-fit (link s 0 0 v ∷ xs) ls ((h .0, omega arith), f) r
 
@@ -251,20 +261,23 @@ module _ (g : Given) (i : ℕ) (x : Letter) (σ : List ℕ) (given : LetterGiven
       (given .links j l ∙ ap slotWord e, given .numbers j l ∙ ap slotNumber e)
 
   -- F6: "all its literals hold at t"
-  pub letter-met : g .values ≡ padded σ → letterMet g i ≡ meets x (record { word = g .word; stores = σ })
+  pub letter-met : g .values ≡ padded σ → letterMet g i ≡ meets x (record { word = g .word; before = g .before; stores = σ })
   unfolding letterMet meets
   letter-met e =
-      let t : Tick = record { word = g .word; stores = σ } in
+      let t : Tick = record { word = g .word; before = g .before; stores = σ } in
       let few = readable .few-stores in
       let inside = readable .within in
       let (f₀, f₁) = both-fit (length σ) tests (tests-fit (readable .wires) (length σ) (readable .few-wires) [] (x .literals) tt (inside .literals)) in
       let masks : passes (getD (g .letters) i 0) (getD (g .letters) (256 + i) 0) (g .word) ≡ all (wireHolds (g .word)) (x .literals)
       = ap₂ (λ (a b : ℕ). passes a b (g .word)) (given .looks) (given .wants)
       ∙ same-truth _ _ (passes-meets (x .literals) (readable .sized) (readable .agreed) (g .word)) (meets-passes (x .literals) (readable .sized) (readable .agreed) (g .word)) in
+      let pasts : pastMet g i ≡ all (pastHolds (g .before) (g .word)) (x .literals)
+      = ap (λ (a : ℕ). passes a (g .before) (g .word)) (given .helds) ∙ held-exactly (x .literals) (readable .sized) (g .before) (g .word) in
       let test₀ = slot-test g (length σ) few (4 * i) σ few e (slot 0 tests) f₀ (subst (λ (j : ℕ). SlotGiven g j (slot 0 tests)) (add-zero (4 * i)) (slot-given 0 (omega arith))) in
       let test₁ = slot-test g (length σ) few (4 * i + 1) σ few e (slot 1 tests) f₁ (slot-given 1 (omega arith)) in
       let short : length tests ≤ 2 = omega (arith, tests-length [] (x .literals), inside .few-tests) in
-      ap₂ (λ (a b : Bool). a && b) masks (ap₂ (λ (a b : Bool). a && b) test₀ test₁ ∙ sym (two-hold t tests short)) ∙ sym (meets-parts t [] (x .literals))
+      ap₂ (λ (a b : Bool). a && b) masks (ap₂ (λ (a b : Bool). a && b) pasts (ap₂ (λ (a b : Bool). a && b) test₀ test₁ ∙ sym (two-hold t tests short)))
+      ∙ sym (meets-parts t [] (x .literals))
 
   -- F21: "within a letter the one further right": over any store values that are as many
   pub letter-writes : (t : Tick) → g .word ≡ t .word → (ρ : List ℕ) → length ρ ≡ length σ → writeLetter g i (padded ρ) ≡ padded (carry (write t) ρ (x .writes))

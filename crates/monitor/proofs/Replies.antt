@@ -38,6 +38,7 @@ watches-by v s (w ∷ ws) = watches-by v (after (onward v) s w (reply (judge v) 
 pub record Like (ms : List Exp) (pad : List ℕ → List ℕ) (stores : ℕ) (s : Moving) (m : machine.Watch) : Type 0 where
   pub marks : MarksAll (s .marks) 0 0 ms (m .positions)
   pub values : s .values ≡ pad (m .stores)
+  pub last : s .last ≡ m .last
   pub long : length (m .stores) ≡ stores
 
 -- a verdict by the monitor reached
@@ -52,7 +53,7 @@ told-by ms t σ pad stores (machine.wrong j) z h =
 
 module _ (ms : List Exp) (pad : List ℕ → List ℕ) (stores : ℕ) (v : Watch) (monitors : v .monitors ≡ length ms) (few-monitors : length ms ≤ 32) (few-letters : v .letters ≤ 256)
     (steps : (s : Moving) (m : machine.Watch) → Like ms pad stores s m → (w : ℕ)
-    → Steps ms (machine.seen m w) (m .stores) pad stores (machine.ticked ms m w) (stepWithin (givenOf v (s .values) w) (layoutOf v) (s .marks))) where
+    → Steps ms (machine.seen m w) (m .stores) pad stores (machine.ticked ms m w) (stepWithin (givenOf v (s .values) (w ∷ s .last ∷ [])) (layoutOf v) (s .marks))) where
   -- no number is too large
   all-within : within (layoutOf v) ≡ layoutOf v
   all-within =
@@ -62,7 +63,7 @@ module _ (ms : List Exp) (pad : List ℕ → List ℕ) (stores : ℕ) (v : Watch
 
   steps-within : (s : Moving) (m : machine.Watch) → Like ms pad stores s m → (w : ℕ) → Steps ms (machine.seen m w) (m .stores) pad stores (machine.ticked ms m w) (stepFrom v s w)
   steps-within s m l w =
-      subst (λ (y : Layout). Steps ms (machine.seen m w) (m .stores) pad stores (machine.ticked ms m w) (stepWithin (givenOf v (s .values) w) y (s .marks))) (sym all-within) (steps s m l w)
+      subst (λ (y : Layout). Steps ms (machine.seen m w) (m .stores) pad stores (machine.ticked ms m w) (stepWithin (givenOf v (s .values) (w ∷ s .last ∷ [])) y (s .marks))) (sym all-within) (steps s m l w)
 
   same-judgment : (s : Moving) (m : machine.Watch) → Like ms pad stores s m → (w : ℕ) → judge v s w ≡ machine.answer ms m w
   same-judgment s m l w =
@@ -73,7 +74,7 @@ module _ (ms : List Exp) (pad : List ℕ → List ℕ) (stores : ℕ) (v : Watch
   same-move s m l w e = by (machine.ticked ms m w) (steps-within s m l w) e
     where
       by : (a : machine.Ticked) → Steps ms (machine.seen m w) (m .stores) pad stores a (stepFrom v s w) → machine.told a ≡ ok → Like ms pad stores (onward v s w) (machine.movedBy ms m w a)
-      by (machine.fine nss) h e = let (a, b, c, d) = h .goes nss refl in record { marks = b; values = c; long = d }
+      by (machine.fine nss) h e = let (a, b, c, d) = h .goes nss refl in record { marks = b; values = c; last = refl; long = d }
       by (machine.wrong j) h e = clash (cc e)
 
   module _ (s : State Moving) (m : machine.Watch) (l : Like ms pad stores (s .inner) m) (ws : List ℕ) where

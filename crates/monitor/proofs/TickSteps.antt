@@ -176,7 +176,7 @@ module _ (g : Given) (p o f : List ℕ) (m l m′ l′ : ℕ) (K : List ℕ) (i 
   pub step-stops : i < m′ → move i K (g .values) ≡ stepWithin g (layout p o f (min m 32) (min l 256)) K
   step-stops h = sym (taken (ltb i m′) (move i K (g .values)) _ (lt-ltb i m′ h)) ∙ step-any
 
-  pub step-moves : m′ ≤ i → (N σ : List ℕ) → N ≡ marksAfter 256 M → (q k : ℕ) → q ≡ part0 (getD (g .letters) 512 0) → k ≡ min q l′ → σ ≡ writeMarked g N k 0 (g .values)
+  pub step-moves : m′ ≤ i → (N σ : List ℕ) → N ≡ marksAfter 256 M → (q k : ℕ) → q ≡ part0 (getD (g .letters) 768 0) → k ≡ min q l′ → σ ≡ writeMarked g N k 0 (g .values)
       → move i N σ ≡ stepWithin g (layout p o f (min m 32) (min l 256)) K
   step-moves h N σ a q k u v b =
       ap₂ (λ (s t : List ℕ). move i s t) a (b ∙ ap₂ (λ (s : List ℕ) (j : ℕ). writeMarked g s j 0 (g .values)) a (v ∙ ap (λ (j : ℕ). min j l′) u))
@@ -209,19 +209,19 @@ module _ (b : Bool) (n k w : ℕ) (f : b ≡ false) where
 
 -- ---- the watch after a call
 
-pub one-tick : (v : Watch) (K σ : List ℕ)
-    → withState v (record { inner = record { marks = K; values = σ }; oks = v .ticks + 1; stopped = v .stopped })
-    ≡ withState v (record { inner = record { marks = K; values = σ }; oks = suc (v .ticks); stopped = v .stopped })
-one-tick v K σ =
+pub one-tick : (v : Watch) (K σ : List ℕ) (w : ℕ)
+    → withState v (record { inner = record { marks = K; values = σ; last = w }; oks = v .ticks + 1; stopped = v .stopped })
+    ≡ withState v (record { inner = record { marks = K; values = σ; last = w }; oks = suc (v .ticks); stopped = v .stopped })
+one-tick v K σ w =
     let e : v .ticks + 1 ≡ suc (v .ticks) = omega arith in
-    ap (λ (n : ℕ). withState v (record { inner = record { marks = K; values = σ }; oks = n; stopped = v .stopped })) e
+    ap (λ (n : ℕ). withState v (record { inner = record { marks = K; values = σ; last = w }; oks = n; stopped = v .stopped })) e
 
 -- ---- calls
 
 -- a step on lent tables is one of the watch whose tables they are
-pub lent-step : (v : Watch) (s : Moving) (w : ℕ) (t : List (List ℕ)) (a : Move) → t ≡ tablesOf v → a ≡ stepOf (given t (s .values) w) (layoutOf v) (s .marks)
+pub lent-step : (v : Watch) (s : Moving) (w : ℕ) (t : List (List ℕ)) (a : Move) → t ≡ tablesOf v → a ≡ stepOf (given t (s .values) (w ∷ s .last ∷ [])) (layoutOf v) (s .marks)
     → a ≡ stepFrom v s w
-lent-step v s w t a e d = d ∙ ap (λ (u : List (List ℕ)). stepOf (given u (s .values) w) (layoutOf v) (s .marks)) e
+lent-step v s w t a e d = d ∙ ap (λ (u : List (List ℕ)). stepOf (given u (s .values) (w ∷ s .last ∷ [])) (layoutOf v) (s .marks)) e
 
 module _ (v : Watch) (w n : ℕ) (e : n ≡ refusedBy (v .stopped) (v .ticks) (v .wires) w) where
   reply-refused : (n ≡ 0 → ⊥) → replyOf v w ≡ refused n 0
@@ -272,12 +272,12 @@ module _ (v : Watch) (w n : ℕ) (e : n ≡ refusedBy (v .stopped) (v .ticks) (v
         let r = sym (reply-moved ∙ ap verdictReply (taken (ltb i (min (v .monitors) 32)) (broken i) clean (lt-ltb i (min (v .monitors) 32) (omega (arith, l))))) in
         (r, q ∙ ap (λ (t : Reply). withState v (after (onward v) (stateOf v) w t)) r)
 
-    pub call-ok : m ≤ i → u ≡ withState v (record { inner = record { marks = K; values = σ }; oks = suc (v .ticks); stopped = v .stopped })
+    pub call-ok : m ≤ i → u ≡ withState v (record { inner = record { marks = K; values = σ; last = w }; oks = suc (v .ticks); stopped = v .stopped })
         → (shownAnswer Ok ≡ replyOf v w) × (u ≡ watchAfter v w)
     unfolding watchAfter
     call-ok h q =
         let r = sym (reply-moved ∙ ap verdictReply (left (ltb i (min (v .monitors) 32)) (broken i) clean (le-ltb i (min (v .monitors) 32) (omega (arith, l))))) in (
           r,
-          q ∙ ap (λ (a : Move). withState v (record { inner = record { marks = a .marks; values = a .values }; oks = suc (v .ticks); stopped = v .stopped })) s
+          q ∙ ap (λ (a : Move). withState v (record { inner = record { marks = a .marks; values = a .values; last = w }; oks = suc (v .ticks); stopped = v .stopped })) s
               ∙ ap (λ (t : Reply). withState v (after (onward v) (stateOf v) w t)) r,
         )

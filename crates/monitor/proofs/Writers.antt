@@ -103,14 +103,15 @@ module _ (g : Given) (K : List ℕ) where
 
 -- ---- in a watch's tables
 
-module _ (v : Watch) (σ : List ℕ) (w : ℕ) where
-  writers-are : part0 (getD (givenOf v σ w .letters) 512 0) ≡ writersOf (v .links) 256
+module _ (v : Watch) (σ w : List ℕ) where
+  writers-are : part0 (getD (givenOf v σ w .letters) 768 0) ≡ writersOf (v .links) 256
   writers-are =
       let h = writers-below (v .links) 256 in
       let a = length-sets (replicate 1024 0) 0 (v .look) in
       let b = length-sets (sets (replicate 1024 0) 0 (v .look)) 256 (v .want) in
+      let d = length-sets (sets (sets (replicate 1024 0) 0 (v .look)) 256 (v .want)) 512 (v .held) in
       let r = length-replicate {A = ℕ} 1024 0 in
-      ap part0 (getD-set-same (sets (sets (replicate 1024 0) 0 (v .look)) 256 (v .want)) 512 (writersOf (v .links) 256) 0 (omega (arith, a, b, r)))
+      ap part0 (getD-set-same (sets (sets (sets (replicate 1024 0) 0 (v .look)) 256 (v .want)) 512 (v .held)) 768 (writersOf (v .links) 256) 0 (omega (arith, a, b, d, r)))
       ∙ mod-eq-of-lt (omega (arith, h))
 
   pub writers-enough : (n : ℕ) → n ≤ 256 → (K ρ : List ℕ) → writeMarked (givenOf v σ w) K (writers (givenOf v σ w) n) 0 ρ ≡ writeMarked (givenOf v σ w) K n 0 ρ

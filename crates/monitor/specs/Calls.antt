@@ -13,14 +13,15 @@ use Rattle.rules.specs.declared.Watch.{Watch}
 use Rattle.monitor.specs.Letters.{Given, given}
 use Rattle.monitor.specs.Ticks.{Layout, layout, Move, stepOf, verdictOf}
 
--- W7: what moves from tick to tick, the marks and the store values.
+-- W7: what moves from tick to tick, the marks, the store values and the word of the last tick.
 pub record Moving : Type 0 where
   pub marks : List ℕ
   pub values : List ℕ
+  pub last : ℕ
 
--- the rest of a watch: what each letter looks at and, 256 places on, wants; and at 512 how many letters there are up to the last that writes
-abbrev pub lettersOf : (look want : List ℕ) → (writers : ℕ) → List ℕ
-lettersOf a b n = set (sets (sets (replicate 1024 0) 0 a) 256 b) 512 n
+-- the rest of a watch: what each letter looks at, 256 places on what it wants, 512 on the wires that must be as before; and at 768 how many letters there are up to the last that writes
+abbrev pub lettersOf : (look want held : List ℕ) → (writers : ℕ) → List ℕ
+lettersOf a b h n = set (sets (sets (sets (replicate 1024 0) 0 a) 256 b) 512 h) 768 n
 
 -- of the first n letters so many, up to the last that has a write
 unfoldable pub writersOf : (links : List ℕ) → (n : ℕ) → ℕ
@@ -29,27 +30,27 @@ writersOf c (suc n) = cond (eqb (getD c (4 * n + 2) 0) 0) (cond (eqb (getD c (4 
 
 -- its tables, as a tick is lent them
 abbrev pub tablesOf : Watch → List (List ℕ)
-tablesOf v = v .table ∷ v .links ∷ v .numbers ∷ lettersOf (v .look) (v .want) (writersOf (v .links) 256) ∷ []
+tablesOf v = v .table ∷ v .links ∷ v .numbers ∷ lettersOf (v .look) (v .want) (v .held) (writersOf (v .links) 256) ∷ []
 
-abbrev pub givenOf : Watch → (values : List ℕ) → (word : ℕ) → Given
-givenOf v σ w = given (tablesOf v) σ w
+abbrev pub givenOf : Watch → (values words : List ℕ) → Given
+givenOf v σ ws = given (tablesOf v) σ ws
 
 abbrev pub layoutOf : Watch → Layout
 layoutOf v = layout (v .places) (v .own) (v .firsts) (v .monitors) (v .letters)
 
 abbrev pub stepFrom : Watch → Moving → ℕ → Move
-stepFrom v s w = stepOf (givenOf v (s .values) w) (layoutOf v) (s .marks)
+stepFrom v s w = stepOf (givenOf v (s .values) (w ∷ s .last ∷ [])) (layoutOf v) (s .marks)
 
 -- what is made of a word
 abbrev pub judge : Watch → Moving → ℕ → Verdict
 judge v s w = verdictOf (layoutOf v) (stepFrom v s w)
 
 abbrev pub onward : Watch → Moving → ℕ → Moving
-onward v s w = record { marks = stepFrom v s w .marks; values = stepFrom v s w .values }
+onward v s w = record { marks = stepFrom v s w .marks; values = stepFrom v s w .values; last = w }
 
 -- a watch's state between two calls
 abbrev pub stateOf : Watch → State Moving
-stateOf v = record { inner = record { marks = v .marks; values = v .values }; oks = v .ticks; stopped = v .stopped }
+stateOf v = record { inner = record { marks = v .marks; values = v .values; last = v .before }; oks = v .ticks; stopped = v .stopped }
 
 abbrev pub withState : Watch → State Moving → Watch
 withState v s =
@@ -57,6 +58,7 @@ withState v s =
       table = v .table;
       look = v .look;
       want = v .want;
+      held = v .held;
       links = v .links;
       numbers = v .numbers;
       places = v .places;
@@ -67,6 +69,7 @@ withState v s =
       monitors = v .monitors;
       wires = v .wires;
       stores = v .stores;
+      before = s .inner .last;
       values = s .inner .values;
       marks = s .inner .marks;
       ticks = s .oks;
@@ -94,9 +97,11 @@ unfoldable pub watchAfterAll : Watch → List ℕ → Watch
 watchAfterAll v [] = v
 watchAfterAll v (w ∷ ws) = watchAfterAll (watchAfter v w) ws
 
--- W1, W7 to W9: what a watch u, opened as v, holds where the meaning stands at h: tick count, stop and store values, zeros behind them; all else is as in v
+-- W1, W7 to W9: what a watch u, opened as v, has where the meaning stands at h: tick count, stop, the word before and the store values, zeros behind these; all else but
+-- the marks is as in v
 pub record Held (v u : Watch) (h : State History) : Type 0 where
   pub tables : u ≡ withState v (stateOf u)
   pub ticks : u .ticks ≡ h .oks
   pub stopped : u .stopped ≡ h .stopped
+  pub before : u .before ≡ h .inner .last
   pub values : u .values ≡ sets (replicate 16 0) 0 (h .inner .stores)

@@ -9,8 +9,9 @@ use lib.ListN.{getD, set}
 use Rattle.masks.specs.Wires.{passes}
 use Rattle.words.specs.Words.{part0, part1, part2}
 
--- What a tick is judged by: the rows, each in one word; the letters' links and their numbers; for each letter the wires that it looks at, and 256 places on the values that
--- it wants, and at 512 how many letters there are up to the last that writes; the store values before the tick, and its word.
+-- What a tick is judged by: the rows, each in one word; the letters' links and their numbers; for each letter the wires that it looks at, 256 places on the values that
+-- it wants and 512 on the wires that must be as before, and at 768 how many letters there are up to the last that writes; the store values before the tick, its word and the
+-- one before it.
 pub record Given : Type 0 where
   pub table : List ℕ
   pub links : List ℕ
@@ -18,10 +19,11 @@ pub record Given : Type 0 where
   pub letters : List ℕ
   pub values : List ℕ
   pub word : ℕ
+  pub before : ℕ
 
--- from four tables, in this order
-abbrev pub given : (tables : List (List ℕ)) → (values : List ℕ) → (word : ℕ) → Given
-given t v w = record { table = getD t 0 []; links = getD t 1 []; numbers = getD t 2 []; letters = getD t 3 []; values = v; word = w }
+-- from four tables, in this order, and two words, the tick's own first
+abbrev pub given : (tables : List (List ℕ)) → (values words : List ℕ) → Given
+given t v ws = record { table = getD t 0 []; links = getD t 1 []; numbers = getD t 2 []; letters = getD t 3 []; values = v; word = getD ws 0 0; before = getD ws 1 0 }
 
 -- A link's value: its number (part 1 is 2), or the wires from part 2 on that its number masks (N4), F20: "in word t".
 abbrev pub linkValue : (link number word : ℕ) → ℕ
@@ -31,9 +33,17 @@ linkValue x v w = cond (eqb (part1 x) 2) v (bitAnd (w / 2 ^ (part2 x % 64)) v)
 abbrev pub testMet : Given → (slot : ℕ) → Bool
 testMet g i = eqb (getD (g .links) i 0) 0 || eqb (getD (g .values) (part0 (getD (g .links) i 0)) 0) (linkValue (getD (g .links) i 0) (getD (g .numbers) i 0) (g .word))
 
--- F6: "all its literals hold at t": the wires looked at have the values wanted, and both tests are met
+-- the wires looked at have the values wanted
+abbrev pub wiresMet : Given → (letter : ℕ) → Bool
+wiresMet g l = passes (getD (g .letters) l 0) (getD (g .letters) (256 + l) 0) (g .word)
+
+-- and those that must be as before have the values of the word before
+abbrev pub pastMet : Given → (letter : ℕ) → Bool
+pastMet g l = passes (getD (g .letters) (512 + l) 0) (g .before) (g .word)
+
+-- F6: "all its literals hold at t": those of wires, those of the word before, and both store tests
 unfoldable pub letterMet : Given → (letter : ℕ) → Bool
-letterMet g l = passes (getD (g .letters) l 0) (getD (g .letters) (256 + l) 0) (g .word) && (testMet g (4 * l) && testMet g (4 * l + 1))
+letterMet g l = wiresMet g l && (pastMet g l && (testMet g (4 * l) && testMet g (4 * l + 1)))
 
 -- F20: a write, or none
 abbrev pub writeSlot : Given → (slot : ℕ) → List ℕ → List ℕ

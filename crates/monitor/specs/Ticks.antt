@@ -95,7 +95,7 @@ writeMarked g marks (suc n) l σ = writeMarked g marks n (suc l) (writeIf g mark
 
 -- so many letters need be looked at, by what the tables say, and no more than there are
 abbrev pub writers : Given → (letters : ℕ) → ℕ
-writers g n = min (part0 (getD (g .letters) 512 0)) n
+writers g n = min (part0 (getD (g .letters) 768 0)) n
 
 -- ---- one tick
 

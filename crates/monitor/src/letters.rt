@@ -1,8 +1,11 @@
 // A letter at a tick: whether it is met, and what it writes (specs/Letters.antt).
+use super::tables::BEFORE;
+use super::tables::HELD;
 use super::tables::LETTERS;
 use super::tables::LINKS;
 use super::tables::NUMBERS;
 use super::tables::WANTED;
+use super::tables::WORD;
 use masks::passes;
 use words::part0;
 use words::part1;
@@ -34,27 +37,28 @@ fn value_at(values: &[u64], store: usize) -> u64
 }
 
 // Whether the store test in a slot is met, or there is none.
-fn test_met(slot: usize, word: u64, tables: &[[u64; 1024]; 4], values: &[u64; 16]) -> bool
+fn test_met(slot: usize, words: &[u64; 2], tables: &[[u64; 1024]; 4], values: &[u64; 16]) -> bool
     requires { ⌜ slot < 1024 ⌝ }
-    ensures { λ r. ⌜ r ≡ testMet (given (now (tables .entry)) (now (values .entry)) word) slot ⌝ }
+    ensures { λ r. ⌜ r ≡ testMet (given (now (tables .entry)) (now (values .entry)) (now (words .entry))) slot ⌝ }
 {
     let link = tables[LINKS][slot];
     if link == 0 {
         return true;
     }
-    value_at(values, part0(link)) == link_value(link, tables[NUMBERS][slot], word)
+    value_at(values, part0(link)) == link_value(link, tables[NUMBERS][slot], words[WORD])
 }
 
-// The letter test: wires and stores.
+// The letter test: wires, wires to be as before, and stores.
 pub(crate) fn letter_met(
     letter: usize,
-    word: u64,
+    words: &[u64; 2],
     tables: &[[u64; 1024]; 4],
     values: &[u64; 16],
 ) -> bool
     requires { ⌜ letter < 256 ⌝ }
-    ensures { λ r. ⌜ r ≡ letterMet (given (now (tables .entry)) (now (values .entry)) word) letter ⌝ }
+    ensures { λ r. ⌜ r ≡ letterMet (given (now (tables .entry)) (now (values .entry)) (now (words .entry))) letter ⌝ }
 {
+    let word = words[WORD];
     if !passes(
         tables[LETTERS][letter],
         tables[LETTERS][WANTED + letter],
@@ -62,10 +66,13 @@ pub(crate) fn letter_met(
     ) {
         return false;
     }
-    if !test_met(4 * letter, word, tables, values) {
+    if !passes(tables[LETTERS][HELD + letter], words[BEFORE], word) {
         return false;
     }
-    test_met(4 * letter + 1, word, tables, values)
+    if !test_met(4 * letter, words, tables, values) {
+        return false;
+    }
+    test_met(4 * letter + 1, words, tables, values)
 }
 
 // Stores a value; nothing where there is no such store.
@@ -79,9 +86,9 @@ fn put_value(store: usize, value: u64, values: &mut [u64])
 }
 
 // The write in a slot, or none.
-fn write_slot(slot: usize, word: u64, tables: &[[u64; 1024]; 4], values: &mut [u64; 16])
+fn write_slot(slot: usize, words: &[u64; 2], tables: &[[u64; 1024]; 4], values: &mut [u64; 16])
     requires { ⌜ slot < 1024 ⌝ }
-    ensures { λ _. ⌜ ((S : List ℕ) → now (values .exit) ≡ writeSlot (given (now (tables .entry)) S word) slot (now (values .entry))) ⌝ }
+    ensures { λ _. ⌜ ((S : List ℕ) → now (values .exit) ≡ writeSlot (given (now (tables .entry)) S (now (words .entry))) slot (now (values .entry))) ⌝ }
 {
     let link = tables[LINKS][slot];
     if link == 0 {
@@ -89,7 +96,7 @@ fn write_slot(slot: usize, word: u64, tables: &[[u64; 1024]; 4], values: &mut [u
     }
     put_value(
         part0(link),
-        link_value(link, tables[NUMBERS][slot], word),
+        link_value(link, tables[NUMBERS][slot], words[WORD]),
         values,
     );
 }
@@ -97,13 +104,13 @@ fn write_slot(slot: usize, word: u64, tables: &[[u64; 1024]; 4], values: &mut [u
 // The writes of a letter, in their order.
 pub(crate) fn write_letter(
     letter: usize,
-    word: u64,
+    words: &[u64; 2],
     tables: &[[u64; 1024]; 4],
     values: &mut [u64; 16],
 )
     requires { ⌜ letter < 256 ⌝ }
-    ensures { λ _. ⌜ ((S : List ℕ) → now (values .exit) ≡ writeLetter (given (now (tables .entry)) S word) letter (now (values .entry))) ⌝ }
+    ensures { λ _. ⌜ ((S : List ℕ) → now (values .exit) ≡ writeLetter (given (now (tables .entry)) S (now (words .entry))) letter (now (values .entry))) ⌝ }
 {
-    write_slot(4 * letter + 2, word, tables, values);
-    write_slot(4 * letter + 3, word, tables, values);
+    write_slot(4 * letter + 2, words, tables, values);
+    write_slot(4 * letter + 3, words, tables, values);
 }

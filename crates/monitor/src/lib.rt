@@ -19,7 +19,7 @@ pub use tables::tables_of;
 use words::part0;
 ghost use mathlib.Core.Path.{_≡_};
 ghost use mathlib.Core.Bool.{true};
-ghost use mathlib.Core.List.{List};
+ghost use mathlib.Core.List.{List, [], _∷_};
 ghost use Prim.Native.Nat.{ℕ, suc, _≤_, _<_};
 ghost use Rattle.meaning.specs.Calls.{isStray};
 ghost use Rattle.monitor.specs.Letters.{given};
@@ -32,42 +32,43 @@ ghost use Rattle.monitor.specs.Shown.{shownAnswer};
 // The writes of a letter, if it is marked.
 fn write_if(
     letter: usize,
-    word: u64,
+    words: &[u64; 2],
     marks: &[u8; 288],
     tables: &[[u64; 1024]; 4],
     values: &mut [u64; 16],
 )
     requires { ⌜ letter < 256 ⌝ }
-    ensures { λ _. ⌜ ((S : List ℕ) → now (values .exit) ≡ writeIf (given (now (tables .entry)) S word) (now (marks .entry)) letter (now (values .entry))) ⌝ }
+    ensures { λ _. ⌜ ((S : List ℕ) → now (values .exit) ≡ writeIf (given (now (tables .entry)) S (now (words .entry))) (now (marks .entry)) letter (now (values .entry))) ⌝ }
 {
     if marks[letter] == 0 {
         return;
     }
-    write_letter(letter, word, tables, values);
+    write_letter(letter, words, tables, values);
 }
 
 // The writes of the marked letters, in their order.
 fn write_marked(
     letters: usize,
-    word: u64,
+    words: &[u64; 2],
     marks: &[u8; 288],
     tables: &[[u64; 1024]; 4],
     values: &mut [u64; 16],
 )
     requires { ⌜ letters ≤ 256 ⌝ }
-    ensures { λ _. ⌜ ((S : List ℕ) → now (values .exit) ≡ writeMarked (given (now (tables .entry)) S word) (now (marks .entry)) letters 0 (now (values .entry))) ⌝ }
+    ensures { λ _. ⌜ ((S : List ℕ) → now (values .exit) ≡ writeMarked (given (now (tables .entry)) S (now (words .entry))) (now (marks .entry)) letters 0 (now (values .entry))) ⌝ }
 {
     let mut i = first_marked(marks, 0, letters);
     while i < letters {
-        write_if(i, word, marks, tables, values);
+        write_if(i, words, marks, tables, values);
         i = first_marked(marks, i + 1, letters);
     }
 }
 
 // ---- one tick
 
-// One tick on lent tables: the first monitor that does not go on, or how many there are. Marks and store values are then those
-// after the tick, or as they were where one does not go on. No more than 32 monitors and 256 letters are looked at.
+// One tick on lent tables, with the word before and its own: the first monitor that does not go on, or how many there are. Marks
+// and store values are then those after the tick, or as they were where one does not go on. No more than 32 monitors and 256
+// letters are looked at.
 pub fn step<'a>(
     tables: &'a [[u64; 1024]; 4],
     places: &'a [u16; 256],
@@ -77,12 +78,14 @@ pub fn step<'a>(
     letters: usize,
     marks: &mut [u8; 288],
     values: &mut [u64; 16],
+    past: u64,
     word: u64,
 ) -> usize
-    ensures { λ r. ⌜ move r (now (marks .exit)) (now (values .exit)) ≡ stepOf (given (now (tables .entry)) (now (values .entry)) word) (layout (now (places .entry)) (now (own .entry)) (now (firsts .entry)) monitors letters) (now (marks .entry)) ⌝ }
+    ensures { λ r. ⌜ move r (now (marks .exit)) (now (values .exit)) ≡ stepOf (given (now (tables .entry)) (now (values .entry)) (word ∷ past ∷ [])) (layout (now (places .entry)) (now (own .entry)) (now (firsts .entry)) monitors letters) (now (marks .entry)) ⌝ }
 {
     let count = least(monitors, 32);
     let end = least(letters, 256);
+    let words = [word, past];
     let mut memory = [0u8; 1280];
     let monitor = monitors_go(
         count,
@@ -93,7 +96,7 @@ pub fn step<'a>(
         firsts,
         tables,
         &mut memory,
-        word,
+        &words,
         values,
     );
     if monitor < count {
@@ -101,7 +104,7 @@ pub fn step<'a>(
     }
     put_marks(&memory, marks);
     let writers = least(part0(tables[LETTERS][WRITERS]), end);
-    write_marked(writers, word, marks, tables, values);
+    write_marked(writers, &words, marks, tables, values);
     monitor
 }
 
@@ -155,14 +158,15 @@ fn stopped(watch: Watch) -> Watch
     next
 }
 
-// The watch after a good tick.
-fn moved_on(watch: Watch, marks: [u8; 288], values: [u64; 16]) -> Watch
+// The watch after a good tick with a word.
+fn moved_on(watch: Watch, marks: [u8; 288], values: [u64; 16], word: u64) -> Watch
     requires { ⌜ watch .ticks < 1000000 ⌝ }
-    ensures { λ r. ⌜ r ≡ withState watch (record { inner = record { marks = marks; values = values }; oks = suc (watch .ticks); stopped = watch .stopped }) ⌝ }
+    ensures { λ r. ⌜ r ≡ withState watch (record { inner = record { marks = marks; values = values; last = word }; oks = suc (watch .ticks); stopped = watch .stopped }) ⌝ }
 {
     let mut next = watch;
     next.marks = marks;
     next.values = values;
+    next.before = word;
     next.ticks = next.ticks + 1;
     next
 }
@@ -191,6 +195,7 @@ pub fn tick(watch: Watch, word: u64) -> Ticked
         watch.letters,
         &mut marks,
         &mut values,
+        watch.before,
         word,
     );
     if monitor < least(watch.monitors, 32) {
@@ -200,7 +205,7 @@ pub fn tick(watch: Watch, word: u64) -> Ticked
             watch: next,
         };
     }
-    let next = moved_on(watch, marks, values);
+    let next = moved_on(watch, marks, values, word);
     Ticked {
         answer: Answer::Ok,
         watch: next,

@@ -34,16 +34,16 @@ fn letter_goes(
     places: &[u16; 256],
     tables: &[[u64; 1024]; 4],
     memory: &mut [u8; 1280],
-    word: u64,
+    words: &[u64; 2],
     values: &[u64; 16],
 ) -> bool
     requires { ⌜ letter < 256 ⌝ }
-    ensures { λ r. ⌜ told r (now (memory .exit)) ≡ letterGoes (given (now (tables .entry)) (now (values .entry)) word) (now (places .entry)) (now (marks .entry)) letter (now (memory .entry)) ⌝ }
+    ensures { λ r. ⌜ told r (now (memory .exit)) ≡ letterGoes (given (now (tables .entry)) (now (values .entry)) (now (words .entry))) (now (places .entry)) (now (marks .entry)) letter (now (memory .entry)) ⌝ }
 {
     if marks[letter] == 0 {
         return true;
     }
-    leave(wide(places[letter]), STEPS, tables, memory, word, values)
+    leave(wide(places[letter]), STEPS, tables, memory, words, values)
 }
 
 // The letters from one up to another.
@@ -54,15 +54,15 @@ fn letters_go(
     places: &[u16; 256],
     tables: &[[u64; 1024]; 4],
     memory: &mut [u8; 1280],
-    word: u64,
+    words: &[u64; 2],
     values: &[u64; 16],
 ) -> bool
     requires { ⌜ to ≤ 256 ⌝ }
-    ensures { λ r. ⌜ told r (now (memory .exit)) ≡ lettersGo (given (now (tables .entry)) (now (values .entry)) word) (now (places .entry)) (now (marks .entry)) (to - from) from (now (memory .entry)) ⌝ }
+    ensures { λ r. ⌜ told r (now (memory .exit)) ≡ lettersGo (given (now (tables .entry)) (now (values .entry)) (now (words .entry))) (now (places .entry)) (now (marks .entry)) (to - from) from (now (memory .entry)) ⌝ }
 {
     let mut letter = first_marked(marks, from, to);
     while letter < to {
-        if !letter_goes(letter, marks, places, tables, memory, word, values) {
+        if !letter_goes(letter, marks, places, tables, memory, words, values) {
             return false;
         }
         letter = first_marked(marks, letter + 1, to);
@@ -77,16 +77,16 @@ fn start_goes(
     own: &[u16; 32],
     tables: &[[u64; 1024]; 4],
     memory: &mut [u8; 1280],
-    word: u64,
+    words: &[u64; 2],
     values: &[u64; 16],
 ) -> bool
     requires { ⌜ monitor < 32 ⌝ }
-    ensures { λ r. ⌜ told r (now (memory .exit)) ≡ startGoes (given (now (tables .entry)) (now (values .entry)) word) (now (own .entry)) (now (marks .entry)) monitor (now (memory .entry)) ⌝ }
+    ensures { λ r. ⌜ told r (now (memory .exit)) ≡ startGoes (given (now (tables .entry)) (now (values .entry)) (now (words .entry))) (now (own .entry)) (now (marks .entry)) monitor (now (memory .entry)) ⌝ }
 {
     if marks[256 + monitor] == 0 {
         return true;
     }
-    ask(wide(own[monitor]), STEPS, tables, memory, word, values)
+    ask(wide(own[monitor]), STEPS, tables, memory, words, values)
 }
 
 // Where a monitor's letters end.
@@ -111,18 +111,18 @@ fn monitor_goes(
     firsts: &[u16; 32],
     tables: &[[u64; 1024]; 4],
     memory: &mut [u8; 1280],
-    word: u64,
+    words: &[u64; 2],
     values: &[u64; 16],
 ) -> bool
     requires { ⌜ (monitor < monitors) × (monitors ≤ 32) × (letters ≤ 256) ⌝ }
-    ensures { λ r. ⌜ told r (now (memory .exit)) ≡ monitorGoes (given (now (tables .entry)) (now (values .entry)) word) (layout (now (places .entry)) (now (own .entry)) (now (firsts .entry)) monitors letters) (now (marks .entry)) monitor (now (memory .entry)) ⌝ }
+    ensures { λ r. ⌜ told r (now (memory .exit)) ≡ monitorGoes (given (now (tables .entry)) (now (values .entry)) (now (words .entry))) (layout (now (places .entry)) (now (own .entry)) (now (firsts .entry)) monitors letters) (now (marks .entry)) monitor (now (memory .entry)) ⌝ }
 {
-    if !start_goes(monitor, marks, own, tables, memory, word, values) {
+    if !start_goes(monitor, marks, own, tables, memory, words, values) {
         return false;
     }
     let from = wide(firsts[monitor]);
     let to = letters_end(firsts, monitors, letters, monitor);
-    letters_go(from, to, marks, places, tables, memory, word, values)
+    letters_go(from, to, marks, places, tables, memory, words, values)
 }
 
 // Every active position of every monitor: the first monitor that does not go on, or how many there are.
@@ -135,11 +135,11 @@ pub(crate) fn monitors_go(
     firsts: &[u16; 32],
     tables: &[[u64; 1024]; 4],
     memory: &mut [u8; 1280],
-    word: u64,
+    words: &[u64; 2],
     values: &[u64; 16],
 ) -> usize
     requires { ⌜ (monitors ≤ 32) × (letters ≤ 256) ⌝ }
-    ensures { λ r. ⌜ reached r (now (memory .exit)) ≡ monitorsGo (given (now (tables .entry)) (now (values .entry)) word) (layout (now (places .entry)) (now (own .entry)) (now (firsts .entry)) monitors letters) (now (marks .entry)) monitors 0 (now (memory .entry)) ⌝ }
+    ensures { λ r. ⌜ reached r (now (memory .exit)) ≡ monitorsGo (given (now (tables .entry)) (now (values .entry)) (now (words .entry))) (layout (now (places .entry)) (now (own .entry)) (now (firsts .entry)) monitors letters) (now (marks .entry)) monitors 0 (now (memory .entry)) ⌝ }
 {
     let mut monitor: usize = 0;
     while monitor < monitors {
@@ -153,7 +153,7 @@ pub(crate) fn monitors_go(
             firsts,
             tables,
             memory,
-            word,
+            words,
             values,
         ) {
             return monitor;

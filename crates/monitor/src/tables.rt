@@ -20,8 +20,16 @@ pub(crate) const LETTERS: usize = 3;
 
 pub(crate) const WANTED: usize = 256;
 
+// From here on the wires that must be as before.
+pub(crate) const HELD: usize = 512;
+
 // How many letters there are up to the last that writes.
-pub(crate) const WRITERS: usize = 512;
+pub(crate) const WRITERS: usize = 768;
+
+// The two words of a tick: its own, and the one before.
+pub(crate) const WORD: usize = 0;
+
+pub(crate) const BEFORE: usize = 1;
 
 // One word a letter into a table, from a place on.
 fn place(words: &[u64; 256], at: usize, table: &mut [u64; 1024])
@@ -64,6 +72,7 @@ pub fn tables_of(watch: Watch) -> [[u64; 1024]; 4]
     let mut letters = [0u64; 1024];
     place(&watch.look, 0, &mut letters);
     place(&watch.want, WANTED, &mut letters);
+    place(&watch.held, HELD, &mut letters);
     letters[WRITERS] = writers_of(&links, 256) as u64;
     let mut tables = [[0u64; 1024]; 4];
     tables[ROWS] = rows;

@@ -36,15 +36,15 @@ fn enter_letter(
     letter: usize,
     tables: &[[u64; 1024]; 4],
     memory: &mut [u8; 1280],
-    word: u64,
+    words: &[u64; 2],
     values: &[u64; 16],
 ) -> u8
-    ensures { λ r. ⌜ came r (now (memory .exit)) ≡ enterLetter (given (now (tables .entry)) (now (values .entry)) word) letter (now (memory .entry)) ⌝ }
+    ensures { λ r. ⌜ came r (now (memory .exit)) ≡ enterLetter (given (now (tables .entry)) (now (values .entry)) (now (words .entry))) letter (now (memory .entry)) ⌝ }
 {
     if 256 <= letter {
         return BLOCKED;
     }
-    if !letter_met(letter, word, tables, values) {
+    if !letter_met(letter, words, tables, values) {
         return BLOCKED;
     }
     memory[1024 + letter] = 1;
@@ -57,10 +57,10 @@ fn enter(
     steps: usize,
     tables: &[[u64; 1024]; 4],
     memory: &mut [u8; 1280],
-    word: u64,
+    words: &[u64; 2],
     values: &[u64; 16],
 ) -> u8
-    ensures { λ r. ⌜ came r (now (memory .exit)) ≡ enterM steps (given (now (tables .entry)) (now (values .entry)) word) row (now (memory .entry)) ⌝ }
+    ensures { λ r. ⌜ came r (now (memory .exit)) ≡ enterM steps (given (now (tables .entry)) (now (values .entry)) (now (words .entry))) row (now (memory .entry)) ⌝ }
 {
     if steps == 0 {
         return BLOCKED;
@@ -72,7 +72,7 @@ fn enter(
     if known != 0 {
         return known;
     }
-    let code = enter_on(tables[ROWS][row], steps - 1, tables, memory, word, values);
+    let code = enter_on(tables[ROWS][row], steps - 1, tables, memory, words, values);
     memory[row] = code;
     code
 }
@@ -83,16 +83,16 @@ fn enter_on(
     steps: usize,
     tables: &[[u64; 1024]; 4],
     memory: &mut [u8; 1280],
-    word: u64,
+    words: &[u64; 2],
     values: &[u64; 16],
 ) -> u8
-    ensures { λ r. ⌜ came r (now (memory .exit)) ≡ enterOn (given (now (tables .entry)) (now (values .entry)) word) (enterM steps (given (now (tables .entry)) (now (values .entry)) word)) entry (now (memory .entry)) ⌝ }
+    ensures { λ r. ⌜ came r (now (memory .exit)) ≡ enterOn (given (now (tables .entry)) (now (values .entry)) (now (words .entry))) (enterM steps (given (now (tables .entry)) (now (values .entry)) (now (words .entry)))) entry (now (memory .entry)) ⌝ }
 {
     if part0(entry) == LETTER {
-        return enter_letter(part1(entry), tables, memory, word, values);
+        return enter_letter(part1(entry), tables, memory, words, values);
     }
-    let first = enter(part1(entry), steps, tables, memory, word, values);
-    enter_second(entry, first, steps, tables, memory, word, values)
+    let first = enter(part1(entry), steps, tables, memory, words, values);
+    enter_second(entry, first, steps, tables, memory, words, values)
 }
 
 // By what the left operand came to.
@@ -102,17 +102,17 @@ fn enter_second(
     steps: usize,
     tables: &[[u64; 1024]; 4],
     memory: &mut [u8; 1280],
-    word: u64,
+    words: &[u64; 2],
     values: &[u64; 16],
 ) -> u8
-    ensures { λ r. ⌜ came r (now (memory .exit)) ≡ enterSecond (enterM steps (given (now (tables .entry)) (now (values .entry)) word)) entry (came first (now (memory .entry))) ⌝ }
+    ensures { λ r. ⌜ came r (now (memory .exit)) ≡ enterSecond (enterM steps (given (now (tables .entry)) (now (values .entry)) (now (words .entry)))) entry (came first (now (memory .entry))) ⌝ }
 {
     let kind = part0(entry);
     if kind == SEQUENCE {
         if first != PASSED {
             return first;
         }
-        return enter(part2(entry), steps, tables, memory, word, values);
+        return enter(part2(entry), steps, tables, memory, words, values);
     }
     if kind == STAR {
         if first == MET {
@@ -126,7 +126,7 @@ fn enter_second(
     if first == MET {
         return first;
     }
-    let second = enter(part2(entry), steps, tables, memory, word, values);
+    let second = enter(part2(entry), steps, tables, memory, words, values);
     if second == MET {
         return MET;
     }
@@ -144,22 +144,22 @@ pub(crate) fn ask(
     steps: usize,
     tables: &[[u64; 1024]; 4],
     memory: &mut [u8; 1280],
-    word: u64,
+    words: &[u64; 2],
     values: &[u64; 16],
 ) -> bool
-    ensures { λ r. ⌜ told r (now (memory .exit)) ≡ askM steps (given (now (tables .entry)) (now (values .entry)) word) row (now (memory .entry)) ⌝ }
+    ensures { λ r. ⌜ told r (now (memory .exit)) ≡ askM steps (given (now (tables .entry)) (now (values .entry)) (now (words .entry))) row (now (memory .entry)) ⌝ }
 {
     if steps == 0 {
         return false;
     }
-    let code = enter(row, steps - 1, tables, memory, word, values);
+    let code = enter(row, steps - 1, tables, memory, words, values);
     if code == MET {
         return true;
     }
     if code != PASSED {
         return false;
     }
-    leave(row, steps - 1, tables, memory, word, values)
+    leave(row, steps - 1, tables, memory, words, values)
 }
 
 // A row is left: whether there is a way on behind it that the tick meets. A monitor's own row, which points at itself, is asked
@@ -169,10 +169,10 @@ pub(crate) fn leave(
     steps: usize,
     tables: &[[u64; 1024]; 4],
     memory: &mut [u8; 1280],
-    word: u64,
+    words: &[u64; 2],
     values: &[u64; 16],
 ) -> bool
-    ensures { λ r. ⌜ told r (now (memory .exit)) ≡ leaveM steps (given (now (tables .entry)) (now (values .entry)) word) row (now (memory .entry)) ⌝ }
+    ensures { λ r. ⌜ told r (now (memory .exit)) ≡ leaveM steps (given (now (tables .entry)) (now (values .entry)) (now (words .entry))) row (now (memory .entry)) ⌝ }
 {
     if steps == 0 {
         return false;
@@ -183,7 +183,7 @@ pub(crate) fn leave(
     let left = steps - 1;
     let above = part3(tables[ROWS][row]);
     if above == row {
-        return ask(row, left, tables, memory, word, values);
+        return ask(row, left, tables, memory, words, values);
     }
     if 1024 <= above {
         return false;
@@ -192,15 +192,15 @@ pub(crate) fn leave(
     let kind = part0(entry);
     if kind == SEQUENCE {
         if part1(entry) == row {
-            return ask(part2(entry), left, tables, memory, word, values);
+            return ask(part2(entry), left, tables, memory, words, values);
         }
-        return leave(above, left, tables, memory, word, values);
+        return leave(above, left, tables, memory, words, values);
     }
     if kind == ALTERNATIVE {
-        return leave(above, left, tables, memory, word, values);
+        return leave(above, left, tables, memory, words, values);
     }
     if kind == STAR {
-        return ask(above, left, tables, memory, word, values);
+        return ask(above, left, tables, memory, words, values);
     }
     if kind != PIPE {
         return false;
@@ -208,9 +208,9 @@ pub(crate) fn leave(
     if part1(entry) != row {
         return true;
     }
-    let thread = enter(part2(entry), left, tables, memory, word, values);
+    let thread = enter(part2(entry), left, tables, memory, words, values);
     if thread == BLOCKED {
         return false;
     }
-    leave(above, left, tables, memory, word, values)
+    leave(above, left, tables, memory, words, values)
 }

@@ -65,6 +65,8 @@ fn tick(table: [u64; 1024], starts: u8) {
         letters: 256,
         want: [0; 256],
         monitors: 32,
+        held: [0; 256],
+        before: 0,
         links: [0; 1024],
         wires: 64,
         numbers: [0; 1024],

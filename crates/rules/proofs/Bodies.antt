@@ -7,7 +7,7 @@ use native.Mathlib.Omega.{arith}
 use borrow.Author.Tests.{ne-eqb, eqb-true}
 use lib.ListN.{length, set, length-set}
 use Rattle.lexer.specs.Tokens as token
-use Rattle.lexer.specs.Tokens.{Token, Placed, tokenAt}
+use Rattle.lexer.specs.Tokens.{Token, Placed, tokenAt, ruleWords}
 use Rattle.meaning.specs.Expression.{Literal, Exp}
 use Rattle.meaning.specs.Reading.{statement, defineName, newLevel, Open, closing, inDefine, literal, literalMore, operand, operandMore, Step, isSign, is, choose, notHere, behindLiteral, behindOperand, step}
 use Rattle.meaning.specs.Names.{Names, aDefine, aProduction, newDefine, newProduction, declare}
@@ -16,7 +16,7 @@ use Rattle.rules.specs.declared.literals.Literals.{Literals}
 use Rattle.rules.specs.declared.expression.Parsed.{Parsed}
 use Rattle.rules.specs.declared.parts.Part.{Part}
 use Rattle.words.specs.Words.{quad, part0, part1, part2, part3}
-use Rattle.rules.specs.Cells.{at, flag, Links, testsOn, Denotes, Means}
+use Rattle.rules.specs.Cells.{at, flag, Links, testsOn, Denotes, Means, HeldIs}
 use Rattle.rules.specs.Reads.{readFrom, Unless, fine, faulted, placed}
 use Rattle.rules.specs.Conditions.{Extends, ConditionIs, Given, Added, Refuses, Adds, AllAdded}
 use Rattle.rules.specs.Parts.{PartIs}
@@ -28,7 +28,7 @@ use Rattle.rules.proofs.Stepping.{well, ill, no}
 use Rattle.rules.proofs.OnNumber.{on-token}
 use Rattle.words.proofs.Quads.{quad-0, quad-1, quad-2, quad-3}
 use Rattle.rules.proofs.Put.{put-extends, put-at, extends-then}
-use Rattle.rules.proofs.Kept.{cells-kept, tests-kept}
+use Rattle.rules.proofs.Kept.{cells-kept, tests-kept, held-kept}
 use Rattle.rules.proofs.TaskLaws.{room-after, spent-then}
 use Rattle.rules.proofs.Defining.{withMeaning}
 use Rattle.rules.proofs.PartLaws.{part-kept, within, put-three, first-word, second-word, third-word}
@@ -36,7 +36,7 @@ use Rattle.rules.proofs.PartLaws.{part-kept, within, put-three, first-w
 -- ---- the literals of a define
 
 -- where no `&` follows, `;` is expected
-literals-end : (text : List ℕ) (pos : ℕ) → is 4 (tokenAt text pos) ≡ false → (ns : Names) (s : List ℕ) (ls : List Literal)
+literals-end : (text : List ℕ) (pos : ℕ) → is 4 (tokenAt ruleWords text pos) ≡ false → (ns : Names) (s : List ℕ) (ls : List Literal)
     → readFrom text pos ns (literalMore (inDefine s) ls) ≡ readFrom text pos ns (closing (newDefine s ls))
 unfolding step behindLiteral
 literals-end text pos l ns s ls = on-token text pos _ refl ns _ _ (no _ _ _ l) ∙ sym (on-token text pos _ refl ns (closing (newDefine s ls)) _ refl)
@@ -121,7 +121,7 @@ closes ns s e t pipe comma bars =
 expression-end : (text : List ℕ) (pos : ℕ) → Closes text pos → (ns : Names) (s : List ℕ) (e : Exp)
     → readFrom text pos ns (operandMore (newOpen s) e true) ≡ readFrom text pos ns (closing (newProduction s e))
 expression-end text pos l ns s e =
-    on-token text pos _ refl ns _ _ (closes ns s e (tokenAt text pos) (l .pipe) (l .comma) (l .bars)) ∙ sym (on-token text pos _ refl ns (closing (newProduction s e)) _ refl)
+    on-token text pos _ refl ns _ _ (closes ns s e (tokenAt ruleWords text pos) (l .pipe) (l .comma) (l .bars)) ∙ sym (on-token text pos _ refl ns (closing (newProduction s e)) _ refl)
 
 pub expression-read : (text P : List ℕ) (pos c h : ℕ) (r : Parsed) (Q : List ℕ) → Whole text P pos c h 32 r Q
     → Defines text P pos c h Exp (PartIs Q (r .free) (r .part)) (λ s. operand (newOpen s)) newProduction (r .fault) (r .at) (r .free) Q
@@ -200,17 +200,17 @@ module _ (P : List ℕ) (c last place size : ℕ) (small : length P ≤ 65535) (
   )
 
   module _ (q : Condition) (room : c + 4 ≤ length P) (some : (ls : List Literal) × ConditionIs P c q ls) (n : ℕ) (is : n ≡ flag (q .agrees)) where
-    define-small : (n < 65536) × (q .tests < 65536) × (q .link < 65536)
-    define-small = let f = flag-small (q .agrees) in let (ls, k) = some in (omega arith, omega (arith, k .tests .count), omega (arith, k .tests .low))
+    define-small : (n < 65536) × (q .tests < 65536) × (q .link < 65536) × (q .held < 65536)
+    define-small = let f = flag-small (q .agrees) in let (ls, k) = some in (omega arith, omega (arith, k .tests .count), omega (arith, k .tests .low), omega (arith, k .helds .low))
 
     -- its four words
-    define-cell : (Q : List ℕ) → Extends P c Q (c + 4) → at Q c ≡ quad 2 last place size → at Q (c + 1) ≡ quad n (q .tests) (q .link) 0 → at Q (c + 2) ≡ q .look → at Q (c + 3) ≡ q .want
+    define-cell : (Q : List ℕ) → Extends P c Q (c + 4) → at Q c ≡ quad 2 last place size → at Q (c + 1) ≡ quad n (q .tests) (q .link) (q .held) → at Q (c + 2) ≡ q .look → at Q (c + 3) ≡ q .want
         → CellWritten P c 4 last place size (List Literal) (ConditionIs P c q) aDefine Q
     unfolding Means
     define-cell Q x first body looks wants =
         let (kind, head) = headed Q 2 (omega arith) first in
-        let (a, b, d) = define-small in
-        let link = ap part2 body ∙ quad-2 n (q .tests) (q .link) 0 d in
+        let (a, b, d, g) = define-small in
+        let link = ap part2 body ∙ quad-2 n (q .tests) (q .link) (q .held) d in
         record {
           extends = x;
           head = head;
@@ -219,18 +219,19 @@ module _ (P : List ℕ) (c last place size : ℕ) (small : length P ≤ 65535) (
               record {
                 kind = kind;
                 used = omega arith;
-                agrees = ap part0 body ∙ quad-0 n (q .tests) (q .link) 0 a ∙ is ∙ ap flag (k .masks .agrees);
-                tests = ap part1 body ∙ quad-1 n (q .tests) (q .link) 0 b ∙ k .tests .count;
+                agrees = ap part0 body ∙ quad-0 n (q .tests) (q .link) (q .held) a ∙ is ∙ ap flag (k .masks .agrees);
+                tests = ap part1 body ∙ quad-1 n (q .tests) (q .link) (q .held) b ∙ k .tests .count;
                 links = λ m. subst (λ (i : ℕ). Links Q (c + 4) i (testsOn [] ls)) (sym link) (t .links m);
                 low = omega (arith, link, t .low);
                 looks = looks ∙ k .masks .looks;
                 wants = wants ∙ k .masks .wants;
+                helds = subst (λ (i : ℕ). HeldIs Q (c + 4) i ls) (sym (ap part3 body ∙ quad-3 n (q .tests) (q .link) (q .held) g)) (held-kept P c Q (c + 4) x (q .held) ls (k .helds));
                 sized = k .masks .sized;
               };
         }
 
     pub define-put : CellWritten P c 4 last place size (List Literal) (ConditionIs P c q) aDefine
-        (set (set (set (set P c (quad 2 last place size)) (c + 1) (quad n (q .tests) (q .link) 0)) (c + 2) (q .look)) (c + 3) (q .want))
+        (set (set (set (set P c (quad 2 last place size)) (c + 1) (quad n (q .tests) (q .link) (q .held))) (c + 2) (q .look)) (c + 3) (q .want))
     define-put = define-cell _ (put-four P c _ _ _ _ room) (word-0 P c _ _ _ _ room) (word-1 P c _ _ _ _ room) (word-2 P c _ _ _ _ room) (word-3 P c _ _ _ _ room)
 
   module _ (y : Part) (room : c + 3 ≤ length P) (some : (e : Exp) × PartIs P c y e) (n : ℕ) (is : n ≡ flag (y .nullable)) where
@@ -274,7 +275,7 @@ pub define-begins : (text : List ℕ) (pos : ℕ) (ns : Names) → Begins text p
 unfolding step
 define-begins text pos ns = refl
 
-pub production-begins : (text : List ℕ) (pos : ℕ) → (s : List ℕ) × (place : ℕ) × (after : ℕ) × (tokenAt text pos ≡ placed (token.name s) place after)
+pub production-begins : (text : List ℕ) (pos : ℕ) → (s : List ℕ) × (place : ℕ) × (after : ℕ) × (tokenAt ruleWords text pos ≡ placed (token.name s) place after)
     → (ns : Names) → Begins text pos 16 ns statement (λ s. operand (newOpen s))
 unfolding step
 production-begins text pos (s, place, after, e) ns = rw e

@@ -7,7 +7,7 @@ use Prim.Native.Nat.{ℕ, _+_, _-_, _<_, _≤_}
 use native.Mathlib.Omega.{arith}
 use borrow.Author.Tests.{le-leb, lt-leb}
 use lib.ListN.{length}
-use Rattle.lexer.specs.Tokens.{tokenAt}
+use Rattle.lexer.specs.Tokens.{tokenAt, ruleWords}
 use Rattle.meaning.specs.Expression.{Exp}
 use Rattle.meaning.specs.Answers.{Answer}
 use Rattle.meaning.specs.Reading.{Open, Level, newLevel, onLevel, whole, operand, operandMore, step, is}
@@ -201,7 +201,7 @@ module _ (text P : List ℕ) (start c h levels : ℕ) (g : Named text P start c 
 
           -- where the operand ends
           there : (ns : Names) → Cells text P c h (ns .declared)
-              → (L : Level) × (e : Exp) × (f : Bool) × LevelIs T (s .free) l L × PartIs T (s .free) (s .part) e × (f ≡ false → is 3 (tokenAt text (s .at)) ≡ false)
+              → (L : Level) × (e : Exp) × (f : Bool) × LevelIs T (s .free) l L × PartIs T (s .free) (s .part) e × (f ≡ false → is 3 (tokenAt ruleWords text (s .at)) ≡ false)
               × ((o : Open) → Outer levels o → readFrom text start ns (operand o) ≡ readFrom text (s .at) ns (operandMore (onLevel o L) e f))
           there ns k =
               let d = well (a .task .outcome) z in

@@ -1,14 +1,16 @@
 -- What words stand for stays as it is while more words are written. Assumes nothing.
 use mathlib.Core.Path.{_≡_, refl, sym, _∙_, ap, subst}
+use mathlib.Core.Bool.{cond}
 use mathlib.Core.List.{List, [], _∷_}
 use Prim.Native.Nat.{ℕ, _+_, _<_, _≤_}
 use native.Mathlib.Omega.{arith}
+use lib.Dec.{eqb}
 use lib.ListN.{length, take, drop}
 use Rattle.lexer.specs.Bytes.{Entry}
 use Rattle.meaning.specs.Expression.{Literal, Exp, letter, seq, alt, star, pipe}
 use Rattle.meaning.specs.Names.{Meaning, anInput, aStore, aDefine, aProduction}
 use Rattle.words.specs.Words.{part0, part1, part2, part3}
-use Rattle.rules.specs.Cells.{at, Link, LinkAt, Links, testsOn, writesOn, Node, Denotes, Means, Cells}
+use Rattle.rules.specs.Cells.{at, Link, LinkAt, Links, HeldIs, testsOn, writesOn, Node, Denotes, Means, Cells}
 use Rattle.rules.specs.Conditions.{Extends, TestsAre}
 
 module _ (P : List ℕ) (c : ℕ) (Q : List ℕ) (d : ℕ) (x : Extends P c Q d) where
@@ -36,6 +38,9 @@ module _ (P : List ℕ) (c : ℕ) (Q : List ℕ) (d : ℕ) (x : Extends P c Q d)
   pub tests-kept : (n i : ℕ) (ls : List Literal) → TestsAre P c n i ls → TestsAre Q d n i ls
   tests-kept n i ls t = record { count = t .count; links = λ l. links-kept i _ (t .links l); low = omega (arith, t .low, x .more) }
 
+  pub held-kept : (i : ℕ) (ls : List Literal) → HeldIs P c i ls → HeldIs Q d i ls
+  held-kept i ls h = record { low = omega (arith, h .low, x .more); mask = ap (cond (eqb i 0) 0) (x .kept i (h .low)) ∙ h .mask }
+
   node-kept : (k kind : ℕ) → Node P c k kind → Node Q d k kind
   unfolding Node
   node-kept k kind (p, l, e) = (p, omega (arith, x .more), same part0 k _ l e)
@@ -50,7 +55,7 @@ module _ (P : List ℕ) (c : ℕ) (Q : List ℕ) (d : ℕ) (x : Extends P c Q d)
 
   pub denotes-kept : (k : ℕ) (e : Exp) → Denotes P c k e → Denotes Q d k e
   unfolding Denotes
-  denotes-kept k (letter y) (n, l, a, b, t, w) =
+  denotes-kept k (letter y) (n, l, a, b, t, w, h) =
       let m = under k 0 n in (
         node-kept k 0 n,
         omega (arith, x .more),
@@ -58,6 +63,7 @@ module _ (P : List ℕ) (c : ℕ) (Q : List ℕ) (d : ℕ) (x : Extends P c Q d)
         x .kept (k + 2) l ∙ b,
         subst (λ z. Links Q d z (testsOn [] (y .literals))) (sym (ap part1 (x .kept k m))) (links-kept _ _ t),
         subst (λ z. Links Q d z (writesOn [] (y .writes))) (sym (ap part2 (x .kept k m))) (links-kept _ _ w),
+        subst (λ z. HeldIs Q d z (y .literals)) (sym (ap part3 (x .kept k m))) (held-kept _ _ h),
       )
   denotes-kept k (seq e f) (n, i, j, p, q) =
       let m = under k 1 n in
@@ -105,6 +111,7 @@ module _ (P : List ℕ) (c : ℕ) (Q : List ℕ) (d : ℕ) (x : Extends P c Q d)
         low = moved part2 (λ z. z < d) (h + 1) l (omega (arith, m .low, x .more));
         looks = x .kept (h + 2) (omega arith) ∙ m .looks;
         wants = x .kept (h + 3) u ∙ m .wants;
+        helds = subst (λ z. HeldIs Q d z ls) (sym (ap part3 (x .kept (h + 1) l))) (held-kept _ _ (m .helds));
         sized = m .sized;
       }
   means-kept h (aProduction e) m =

@@ -10,7 +10,7 @@ use native.Mathlib.Omega.{arith}
 use lib.ListN.{length}
 use Rattle.meaning.specs.Expression.{Literal, Exp, aLetter, storeTests}
 use Rattle.lexer.specs.Bytes.{lookup}
-use Rattle.masks.specs.Masks.{look, want}
+use Rattle.masks.specs.Masks.{look, want, held}
 use Rattle.meaning.specs.ShapeTests.{agree}
 use Rattle.meaning.proofs.ListLaws.{no-∈}
 use Rattle.meaning.specs.Answers.{Answer, refused, byte}
@@ -33,12 +33,12 @@ use Rattle.rules.specs.Expressions.{Named, bySimple, Expresses, anyOpen,
 use Rattle.rules.proofs.Stepping.{well, ill, yes, no, faults, no-name, past, past-place, inside-text, on-step, is-on, is-off}
 use Rattle.rules.proofs.Picking.{present, known-name, cell-kind}
 use Rattle.rules.proofs.Put.{extends-refl, extends-then}
-use Rattle.rules.proofs.Kept.{cells-kept, tests-kept}
+use Rattle.rules.proofs.Kept.{cells-kept, tests-kept, held-kept}
 use Rattle.rules.proofs.TaskLaws.{room-on}
 use Rattle.rules.proofs.WriteSteps.{none-yet}
 
 pub condition-kept : (P : List ℕ) (c : ℕ) (Q : List ℕ) (d : ℕ) → Extends P c Q d → (q : Condition) (ls : List Literal) → ConditionIs P c q ls → ConditionIs Q d q ls
-condition-kept P c Q d x q ls k = record { masks = k .masks; tests = tests-kept P c Q d x (q .tests) (q .link) ls (k .tests) }
+condition-kept P c Q d x q ls k = record { masks = k .masks; tests = tests-kept P c Q d x (q .tests) (q .link) ls (k .tests); helds = held-kept P c Q d x (q .held) ls (k .helds) }
 
 pub two-tests : (P : List ℕ) (c : ℕ) (q : Condition) (ls : List Literal) → ConditionIs P c q ls → q .tests ≤ 2 → storeTests ls ≤ 2
 two-tests P c q ls k l = omega (arith, k .tests .count)
@@ -48,8 +48,8 @@ module _ (text P : List ℕ) (pos c h : ℕ) (q : Condition) (t : Seen) (sees : 
   not-and = ap (is 4) (sees .token) ∙ g .last
 
   -- room for the letter's own words
-  pub own-room : (c + 3 ≤ length P) × (length P ≤ 65535) × (1 ≤ c) × (q .link < c) × (0 < c)
-  own-room = let r = g .room in let (ls, k) = g .condition in (omega (arith, r .fits, r .inside), r .small, g .some, k .tests .low, g .some)
+  pub own-room : (c + 3 ≤ length P) × (length P ≤ 65535) × (1 ≤ c) × (q .link < c) × (0 < c) × (q .held < c)
+  own-room = let r = g .room in let (ls, k) = g .condition in (omega (arith, r .fits, r .inside), r .small, g .some, k .tests .low, g .some, k .helds .low)
 
   pub letter-bare : (t .kind ≡ 10 → ⊥) → (Q : List ℕ) (r : Parsed) → r .fault ≡ 0 → r .at ≡ pos → LetterMade P c q 0 Q (r .free) (r .part) → EndsLetter text P pos c h q r Q
   unfolding step behindLiteral
@@ -84,7 +84,7 @@ module _ (text P : List ℕ) (pos c h : ℕ) (q : Condition) (t : Seen) (sees : 
       letter-fails n p =
           record { long = w .long; outcome = faulted n (λ ns k ls d o u. brace ns o ls ∙ ill (w .outcome) n ns k tt tt (record { within = o; literals = ls }) tt) }
 
-      pub written-room : f ≡ 0 → (free + 3 ≤ length Q) × (length Q ≤ 65535) × (1 ≤ free) × (q .link < free) × (j < free)
+      pub written-room : f ≡ 0 → (free + 3 ≤ length Q) × (length Q ≤ 65535) × (1 ≤ free) × (q .link < free) × (j < free) × (q .held < free)
       written-room z =
           let a = well (w .outcome) z in
           let r = g .room in
@@ -94,7 +94,7 @@ module _ (text P : List ℕ) (pos c h : ℕ) (q : Condition) (t : Seen) (sees : 
           let (ns, y) = g .names in
           let (ws, v, on) = a .reads ns y tt tt in
           let p = past text pos t sees (omega arith) in
-          (omega (arith, r .fits, r .inside, s .few, s .inside, x .long), omega (arith, r .small, x .long), omega (arith, g .some, x .more), omega (arith, k .tests .low, x .more), v .low)
+          (omega (arith, r .fits, r .inside, s .few, s .inside, x .long), omega (arith, r .small, x .long), omega (arith, g .some, x .more), omega (arith, k .tests .low, x .more), v .low, omega (arith, k .helds .low, x .more))
 
       pub letter-written : f ≡ 0 → (R : List ℕ) (r : Parsed) → r .fault ≡ 0 → r .at ≡ next → LetterMade Q free q j R (r .free) (r .part) → EndsLetter text P pos c h q r R
       letter-written z R r y e l =
@@ -170,12 +170,13 @@ module _ (text P : List ℕ) (pos c h : ℕ) (q : Condition) (g : LetterBegun te
 
 -- ---- no literals yet
 
-pub none-asked : (P : List ℕ) (c : ℕ) → 1 ≤ c → ConditionIs P c (record { look = 0; want = 0; agrees = true; tests = 0; link = 0 }) []
-unfolding look want agree storeTests testsOn Links
+pub none-asked : (P : List ℕ) (c : ℕ) → 1 ≤ c → ConditionIs P c (record { look = 0; want = 0; agrees = true; tests = 0; link = 0; held = 0 }) []
+unfolding look want held agree storeTests testsOn Links
 none-asked P c l =
     record {
       masks = record { looks = refl; wants = refl; agrees = refl; sized = λ x i. absurd (no-∈ i) };
       tests = record { count = refl; links = λ m. refl; low = l };
+      helds = record { low = l; mask = refl };
     }
 
 -- ---- an operand that is no parenthesis

@@ -1,38 +1,41 @@
 -- Reading one literal: what each function of the reader of literals comes to. Assumes nothing.
 use mathlib.Core.Path.{_≡_, refl, sym, _∙_, ap, ap₂, subst}
-use mathlib.Core.Bool.{Bool, true, false, not}
+use mathlib.Core.Bool.{Bool, true, false, not, _&&_}
 use mathlib.Core.Option.{Option, none, some}
 use mathlib.Core.List.{List, [], _∷_, _++_}
 use Prim.Native.Nat.{ℕ, _+_, _-_, _*_, _^_, _<_, _≤_, min}
 use native.Mathlib.Omega.{arith}
-use borrow.Author.Tests.{le-leb, lt-leb, le-ltb, lt-ltb, ltb-true, ltb-false, ne-eqb, eq-eqb}
+use borrow.Author.Tests.{le-leb, lt-leb, le-ltb, lt-ltb, ltb-true, ltb-false, eqb-true, eqb-false, ne-eqb, eq-eqb}
 use lib.Dec.{leb, ltb, eqb}
+use lib.Bits.{bitOr}
 use lib.Pow.{pow-pos}
 use lib.ListN.{length}
-use Rattle.lexer.specs.Bytes.{lookup}
+use Rattle.lexer.specs.Bytes.{same, lookup}
 use Rattle.lexer.specs.Tokens.{Placed}
-use Rattle.meaning.specs.Expression.{Literal, wire, wire-store, store, Exp, storeTests}
+use Rattle.lexer.proofs.Bools.{and-left}
+use Rattle.meaning.specs.Expression.{Literal, wire, wire-store, wire-past, store, Exp, storeTests}
 use Rattle.meaning.specs.ShapeTests.{agree}
 use Rattle.meaning.specs.Answers.{refused, byte}
 use Rattle.refusals.specs.Numbers.{crowded}
-use Rattle.meaning.specs.Reading.{Context, inDefine, inLetter, sign, bitIndex, storeEquals, wireEquals, wireMore, negated, literal, literalName, behindLiteral, ifNumber, literalMore, tooMany, withLiteral, Step, step, go, fault, known, byKind, choose, unless, atToken, noPair, noLiterals, noExp}
+use Rattle.meaning.specs.Reading.{Context, inDefine, inLetter, sign, bitIndex, storeEquals, wireEquals, pastName, wireMore, negated, literal, literalName, behindLiteral, ifNumber, literalMore, tooMany, withLiteral, Step, step, go, fault, known, byKind, choose, unless, notHere, onName, ifName, atToken, noPair, noLiterals, noExp}
 use Rattle.meaning.specs.Names.{Names, Meaning, anInput, aStore, aDefine, aProduction}
 use Rattle.meaning.proofs.Within.{count-append}
 use Rattle.rules.specs.declared.literals.Condition.{Condition}
 use Rattle.rules.specs.declared.literals.Literals.{Literals}
 use Rattle.rules.specs.declared.tokens.Seen.{Seen}
 use Rattle.rules.specs.Seen.{seen, Sees}
-use Rattle.words.specs.Words.{part0, part1, part2}
-use Rattle.rules.specs.Cells.{at, link, Links, testsOn, Means, InputAt, StoreAt, DefineAt, Cells, Declared, Finds}
-use Rattle.rules.specs.Picks.{kindNumber, Only, bytesOf, Picks}
+use Rattle.words.specs.Words.{part0, part1, part2, part3}
+use Rattle.rules.specs.Cells
+use Rattle.rules.specs.Cells.{at, link, Links, testsOn, heldAt, HeldIs, Means, InputAt, StoreAt, DefineAt, Cells, Declared, Finds}
+use Rattle.rules.specs.Picks.{kindNumber, Only, spelt, bytesOf, Picks}
 use Rattle.rules.specs.Reads.{readFrom, Unless, fine, faulted, Past, Behind, NumberRead}
-use Rattle.rules.specs.Conditions.{Spent, ConditionIs, mostOf, From, Given, Added, Refuses, Adds, Joined, Linked, LinkedBoth, TestsAre, behind, byStore, byDefine, byTest, byName}
-use Rattle.rules.proofs.Stepping.{well, ill, wrong, right, yes, no, faults, since, past, inside-text, past-place, on-step, is-on, is-off, not-here, number-is, no-number, no-name}
+use Rattle.rules.specs.Conditions.{Extends, Spent, ConditionIs, mostOf, From, Given, Added, Refuses, Adds, Joined, Linked, LinkedBoth, HeldBoth, TestsAre, behind, byStore, byDefine, byTest, byName}
+use Rattle.rules.proofs.Stepping.{well, ill, wrong, right, yes, no, faults, since, past, inside-text, past-place, on-step, is-on, is-off, not-here, name-is, number-is, no-number, no-name, is-past, spelled}
 use Rattle.rules.proofs.OnNumber.{Numeric, number-past, number-most, number-refused, number-on}
 use Rattle.rules.proofs.Put.{extends-refl, extends-then}
 use Rattle.rules.proofs.Kept.{cells-kept}
 use Rattle.rules.proofs.PartLaws.{is-flag}
-use Rattle.rules.proofs.Tested.{wire-added, retested, store-test, wire-test, test-added, define-added}
+use Rattle.rules.proofs.Tested.{wire-added, retested, reheld, store-test, wire-test, test-added, define-added, past-added}
 use Rattle.rules.proofs.Picking.{missing, present, known-name, cell-kind}
 
 abbrev pub answered : (f pos free : ℕ) → Condition → Literals
@@ -103,7 +106,7 @@ pub link-room : {text P : List ℕ} {pos c h : ℕ} {q : Condition} → Given te
 link-room g b l m = let r = g .room in let (ls, k) = g .condition in (omega (arith, r .fits), r .small, k .tests .low, omega (arith, k .tests .count))
 
 -- words that were written for a link, where a byte was read
-pub link-spent : (text : List ℕ) (pos c next d : ℕ) → pos < next → next ≤ length text → d ≤ c + 2 → Spent text pos c next d
+pub link-spent : (text : List ℕ) (pos c next d : ℕ) → pos < next → next ≤ length text → d ≤ c + 3 → Spent text pos c next d
 link-spent text pos c next d l m n = record { since = omega arith; inside = m; few = omega arith }
 
 -- too many store tests
@@ -152,7 +155,7 @@ module _ (text P : List ℕ) (at c h : ℕ) (q : Condition) (s width f a : ℕ) 
           long = j .extends .long;
           outcome = fine refl (record {
             extends = j .extends;
-            spent = link-spent text at c b free (omega arith) (after .1) (j .few);
+            spent = link-spent text at c b free (omega arith) (after .1) (omega (arith, j .few));
             few = λ l. omega (arith, j .count);
             reads = λ ns k ls d. (
               ls ++ (store s v ∷ []),
@@ -249,7 +252,7 @@ module _ (text P : List ℕ) (c h pos : ℕ) (t : Seen) (sees : Sees text pos t)
             long = j .extends .long;
             outcome = fine refl (record {
               extends = j .extends;
-              spent = link-spent text (t .place) c (t .after) free (store-past z) (inside-text text pos t sees .1) (j .few);
+              spent = link-spent text (t .place) c (t .after) free (store-past z) (inside-text text pos t sees .1) (omega (arith, j .few));
               few = λ o. omega (arith, j .count);
               reads = λ ns k ls d.
                   let (s, w, st, nm, on) = picked-store text P c h pos t sees f cell pick z ns k in (
@@ -295,23 +298,32 @@ pub from-there : (text : List ℕ) (from there : From) (P : List ℕ) (pos next 
     → Adds text there P next c h q most r Q → Adds text from P pos c h q most r Q
 from-there text from there P pos next c h q most r Q l e = from-cond text from there P pos next c h q most r Q l (λ ns k x ls u m. e ns k x ls)
 
-module _ (text P : List ℕ) (pos c h : ℕ) (t : Seen) (sees : Sees text pos t) (q : Condition) (most lo width : ℕ) (inside : pos ≤ length text) where
+module _ (text P : List ℕ) (pos c h : ℕ) (t : Seen) (sees : Sees text pos t) (q : Condition) (most : ℕ) (name : List ℕ) (lo width : ℕ) (inside : pos ≤ length text) where
   abbrev equals : From
-  equals ns x ls = readFrom text pos ns (wireEquals x ls lo width)
+  equals ns x ls = readFrom text pos ns (wireEquals x ls name lo width)
 
-  pub equals-store : (t .kind ≡ 19 → ⊥) → (r : Literals) (Q : List ℕ) → Adds text (byStore text t lo width) P (t .place) c h q most r Q → Adds text equals P pos c h q most r Q
+  -- `past`
+  pub equals-past : t .kind ≡ 24 → (r : Literals) (Q : List ℕ) → Adds text (λ ns x ls. readFrom text (t .after) ns (sign 6 (pastName x ls name lo width))) P (t .after) c h q most r Q
+      → Adds text equals P pos c h q most r Q
   unfolding step
-  equals-store n r Q =
+  equals-past k r Q =
+      from-there text equals (λ ns x ls. readFrom text (t .after) ns (sign 6 (pastName x ls name lo width))) P pos (t .after) c h q most r Q (let p = past text pos t sees (omega arith) in omega arith) (λ ns d x ls.
+      on-step text pos t sees ns (wireEquals x ls name lo width) _
+      (no-number text pos t sees (λ (e : t .kind ≡ 19). omega arith) _ .1 _ ∙ yes _ _ _ (is-past text pos t sees ∙ eq-eqb (t .kind) 24 k)))
+
+  pub equals-store : (t .kind ≡ 24 → ⊥) → (t .kind ≡ 19 → ⊥) → (r : Literals) (Q : List ℕ) → Adds text (byStore text t lo width) P (t .place) c h q most r Q → Adds text equals P pos c h q most r Q
+  unfolding step
+  equals-store o n r Q =
       from-there text equals (byStore text t lo width) P pos (t .place) c h q most r Q (since text pos t sees inside) (λ ns d x ls.
-      on-step text pos t sees ns (wireEquals x ls lo width) _ (no-number text pos t sees n _ .1 _))
+      on-step text pos t sees ns (wireEquals x ls name lo width) _ (no-number text pos t sees n _ .1 _ ∙ no _ _ _ (is-past text pos t sees ∙ ne-eqb (t .kind) 24 o)))
 
   module _ (k : t .kind ≡ 19) (top : ℕ) (is : top ≡ 2 ^ width - 1) where
     number-step : (ns : Names) (x : Context) (ls : List Literal) (b : Bool) → leb (2 ^ width) (t .value) ≡ b
         → equals ns x ls ≡ behind text t (choose b (fault 6 (t .place)) (withLiteral ns x ls (wire lo width (t .value))))
     unfolding step ifNumber unless atToken
     number-step ns x ls b e =
-        on-step text pos t sees ns (wireEquals x ls lo width) _
-        (ap (step ns (wireEquals x ls lo width)) (number-is text pos t sees k) ∙ ap (λ (d : Bool). choose d (fault 6 (t .place)) (withLiteral ns x ls (wire lo width (t .value)))) e)
+        on-step text pos t sees ns (wireEquals x ls name lo width) _
+        (ap (step ns (wireEquals x ls name lo width)) (number-is text pos t sees k) ∙ ap (λ (d : Bool). choose d (fault 6 (t .place)) (withLiteral ns x ls (wire lo width (t .value)))) e)
 
     pub equals-large : top < t .value → Adds text equals P pos c h q most (answered 6 (t .place) c q) P
     unfolding choose
@@ -332,31 +344,100 @@ module _ (text P : List ℕ) (pos c h : ℕ) (t : Seen) (sees : Sees text pos t)
           });
         }
 
+-- ---- `(wire)` behind `past`
+
+-- there is room for a word behind `(`
+pub past-room : {text P : List ℕ} {at c h : ℕ} {q : Condition} (f a : ℕ) → Behind text at f a (sign 6) → f ≡ 0 → Given text P at c h q → c < length P
+unfolding Behind
+past-room f a paren z g = let p = well paren z .0 in let r = g .room in omega (arith, p, r .fits)
+
+module _ (text P : List ℕ) (at c h : ℕ) (q : Condition) (name : List ℕ) (lo width f a : ℕ) (paren : Behind text at f a (sign 6)) (most : ℕ) where
+  abbrev pasts : From
+  pasts ns x ls = readFrom text at ns (sign 6 (pastName x ls name lo width))
+
+  pub past-no-paren : (f ≡ 0 → ⊥) → Adds text pasts P at c h q most (answered f a c q) P
+  unfolding Behind
+  past-no-paren n = refuse text pasts P at c h q most _ n (λ ns k ls d x m. ill paren n ns _)
+
+  module _ (z : f ≡ 0) (t : Seen) (sees : Sees text a t) where
+    -- the token is the wire's name, or not
+    named : (ns : Names) (x : Context) (ls : List Literal) (b : Bool) → (eqb (t .kind) 18 && same (bytesOf text t) name) ≡ b
+        → step ns (pastName x ls name lo width) (seen text t) ≡ choose b (go ns (sign 7 (literalMore x (ls ++ (wire-past lo width ∷ []))))) (fault (t .fault) (t .place))
+    unfolding step onName ifName
+    named ns x ls b e = by (eqb (t .kind) 18) refl e
+      where
+        by : (k : Bool) → eqb (t .kind) 18 ≡ k → (k && same (bytesOf text t) name) ≡ b
+            → step ns (pastName x ls name lo width) (seen text t) ≡ choose b (go ns (sign 7 (literalMore x (ls ++ (wire-past lo width ∷ []))))) (fault (t .fault) (t .place))
+        by true k f =
+            let n = name-is text a t sees (eqb-true (t .kind) 18 k) in
+            ap (step ns (pastName x ls name lo width)) n
+            ∙ ap₂ (λ (y : Bool) (s : Step). choose y (go ns (sign 7 (literalMore x (ls ++ (wire-past lo width ∷ []))))) s) f
+            (ap notHere (sym n) ∙ not-here text a t sees)
+        by false k f = no-name text a t sees (eqb-false (t .kind) 18 k) _ ∙ sym (no b _ _ (sym f))
+
+    pub past-other : (eqb (t .kind) 18 && same (bytesOf text t) name) ≡ false → Adds text pasts P at c h q most (answered (t .fault) (t .place) c q) P
+    unfolding Behind
+    past-other e =
+        refuse text pasts P at c h q most _ (faults text a t sees) (λ ns k ls d x m.
+        well paren z .1 ns _ ∙ on-step text a t sees ns (pastName x ls name lo width) _ (named ns x ls false e ∙ no _ _ _ refl))
+
+    module _ (e : (eqb (t .kind) 18 && same (bytesOf text t) name) ≡ true) (g b : ℕ) (close : Behind text (t .after) g b (sign 7)) where
+      named-on : (ns : Names) (x : Context) (ls : List Literal) → pasts ns x ls ≡ readFrom text (t .after) ns (sign 7 (literalMore x (ls ++ (wire-past lo width ∷ []))))
+      unfolding Behind
+      named-on ns x ls = well paren z .1 ns _ ∙ on-step text a t sees ns (pastName x ls name lo width) _ (named ns x ls true e ∙ yes _ _ _ refl)
+
+      pub past-open : (g ≡ 0 → ⊥) → Adds text pasts P at c h q most (answered g b c q) P
+      unfolding Behind
+      past-open n = refuse text pasts P at c h q most _ n (λ ns k ls d x m. named-on ns x ls ∙ ill close n ns _)
+
+      pub past-read : g ≡ 0 → lo + width ≤ 64 → 1 ≤ c → (Q : List ℕ) → Extends P c Q (c + 1) → Cells.at Q c ≡ bitOr (heldAt P (q .held)) ((2 ^ width - 1) * 2 ^ lo)
+          → Adds text pasts P at c h q most (answered 0 b (c + 1) (reheld q c)) Q
+      unfolding Behind
+      past-read y s one Q u w =
+          let (before, in-) = well paren z in
+          let (behind, on) = well close y in
+          let l = past-kind-name in
+          record {
+            long = u .long;
+            outcome = fine refl (record {
+              extends = u;
+              spent = link-spent text at c b (c + 1) (omega (arith, before, behind, l)) (behind .1) (omega arith);
+              few = λ o. o;
+              reads = λ ns k ls d. (ls ++ (wire-past lo width ∷ []), past-added P c q lo width ls Q s u one w d, λ x m. named-on ns x ls ∙ on ns _);
+            });
+          }
+        where
+          past-kind-name : a ≤ t .after
+          past-kind-name = let p = past text a t sees (omega (arith, eqb-true (t .kind) 18 (and-left (eqb (t .kind) 18) _ e))) in omega (arith, p)
+
 -- ---- behind the name of wires
 
 module _ (text P : List ℕ) (pos c h : ℕ) (t : Seen) (sees : Sees text pos t) (q : Condition) (most lo width v place : ℕ) (inside : pos ≤ length text) where
+  abbrev name : List ℕ
+  name = spelt text place pos
+
   abbrev wires : From
-  wires ns x ls = readFrom text pos ns (wireMore x ls lo width v place)
+  wires ns x ls = readFrom text pos ns (wireMore x ls name lo width v place)
 
   pub wires-bit : t .kind ≡ 8 → (r : Literals) (Q : List ℕ) → Adds text (λ ns x ls. readFrom text (t .after) ns (bitIndex x ls lo width v)) P (t .after) c h q most r Q → Adds text wires P pos c h q most r Q
   unfolding step
   wires-bit k r Q =
       from-there text wires (λ ns x ls. readFrom text (t .after) ns (bitIndex x ls lo width v)) P pos (t .after) c h q most r Q (let p = past text pos t sees (omega arith) in omega arith) (λ ns d x ls.
-      on-step text pos t sees ns (wireMore x ls lo width v place) (go ns (bitIndex x ls lo width v)) (yes _ _ _ (is-on text pos t sees 8 (omega arith) k)))
+      on-step text pos t sees ns (wireMore x ls name lo width v place) (go ns (bitIndex x ls lo width v)) (yes _ _ _ (is-on text pos t sees 8 (omega arith) k)))
 
   module _ (no8 : t .kind ≡ 8 → ⊥) where
-    pub wires-equals : t .kind ≡ 14 → v ≡ 1 → (r : Literals) (Q : List ℕ) → Adds text (λ ns x ls. readFrom text (t .after) ns (wireEquals x ls lo width)) P (t .after) c h q most r Q → Adds text wires P pos c h q most r Q
+    pub wires-equals : t .kind ≡ 14 → v ≡ 1 → (r : Literals) (Q : List ℕ) → Adds text (λ ns x ls. readFrom text (t .after) ns (wireEquals x ls name lo width)) P (t .after) c h q most r Q → Adds text wires P pos c h q most r Q
     unfolding step
     wires-equals k e r Q =
-        from-there text wires (λ ns x ls. readFrom text (t .after) ns (wireEquals x ls lo width)) P pos (t .after) c h q most r Q (let p = past text pos t sees (omega arith) in omega arith) (λ ns d x ls.
-        on-step text pos t sees ns (wireMore x ls lo width v place) (go ns (wireEquals x ls lo width))
+        from-there text wires (λ ns x ls. readFrom text (t .after) ns (wireEquals x ls name lo width)) P pos (t .after) c h q most r Q (let p = past text pos t sees (omega arith) in omega arith) (λ ns d x ls.
+        on-step text pos t sees ns (wireMore x ls name lo width v place) (go ns (wireEquals x ls name lo width))
         (no _ _ _ (is-off text pos t sees 8 (omega arith) no8) ∙ yes _ _ _ (is-on text pos t sees 14 (omega arith) k) ∙ yes _ _ _ (eq-eqb v 1 e)))
 
     pub wires-negated : t .kind ≡ 14 → (v ≡ 1 → ⊥) → Adds text wires P pos c h q most (answered (t .fault) (t .place) c q) P
     unfolding step
     wires-negated k n =
         refuse text wires P pos c h q most _ (faults text pos t sees) (λ ns d ls e x m.
-        on-step text pos t sees ns (wireMore x ls lo width v place) _
+        on-step text pos t sees ns (wireMore x ls name lo width v place) _
         (no _ _ _ (is-off text pos t sees 8 (omega arith) no8) ∙ yes _ _ _ (is-on text pos t sees 14 (omega arith) k) ∙ no _ _ _ (ne-eqb v 1 n) ∙ not-here text pos t sees))
 
     module _ (no14 : t .kind ≡ 14 → ⊥) where
@@ -364,7 +445,7 @@ module _ (text P : List ℕ) (pos c h : ℕ) (t : Seen) (sees : Sees text pos t)
           → wires ns x ls ≡ behind text t (choose b (behindLiteral ns x (ls ++ (wire lo 1 v ∷ [])) (seen text t)) (fault 6 place))
       unfolding step
       alone ns x ls b e =
-          on-step text pos t sees ns (wireMore x ls lo width v place) _
+          on-step text pos t sees ns (wireMore x ls name lo width v place) _
           (no _ _ _ (is-off text pos t sees 8 (omega arith) no8) ∙ no _ _ _ (is-off text pos t sees 14 (omega arith) no14)
           ∙ ap (λ (d : Bool). choose d (behindLiteral ns x (ls ++ (wire lo 1 v ∷ [])) (seen text t)) (fault 6 place)) e)
 
@@ -420,12 +501,13 @@ module _ (text P : List ℕ) (pos c h : ℕ) (t : Seen) (sees : Sees text pos t)
       (omega (arith, st .used, r .fits, r .inside), rw (st .wide) (st .some), rw (st .low, st .wide) (st .inside))
 
   pub input-read : f ≡ 0 → (lo w : ℕ) → lo ≡ part0 (at P (cell + 1)) → w ≡ part1 (at P (cell + 1)) → (r : Literals) (Q : List ℕ)
-      → Adds text (λ ns x ls. readFrom text (t .after) ns (wireMore x ls lo w 0 (t .place))) P (t .after) c h q most r Q → Adds text nots P pos c h q most r Q
+      → Adds text (λ ns x ls. readFrom text (t .after) ns (wireMore x ls (bytesOf text t) lo w 0 (t .place))) P (t .after) c h q most r Q → Adds text nots P pos c h q most r Q
   unfolding step seen
   input-read z lo w el ew r Q =
-      from-there text nots (λ ns x ls. readFrom text (t .after) ns (wireMore x ls lo w 0 (t .place))) P pos (t .after) c h q most r Q (let p = input-past z in omega arith) (λ ns k x ls.
+      from-there text nots (λ ns x ls. readFrom text (t .after) ns (wireMore x ls (bytesOf text t) lo w 0 (t .place))) P pos (t .after) c h q most r Q (let p = input-past z in omega arith) (λ ns k x ls.
       let (l, u, st, nm, on) = picked-input text P c h pos t sees f cell pick z ns k in
-      on-step text pos t sees ns (negated x ls) _ (on _ _ _ _ ∙ ap₂ (λ (i j : ℕ). go ns (wireMore x ls i j 0 (t .place))) (sym (st .low) ∙ sym el) (sym (st .wide) ∙ sym ew)))
+      on-step text pos t sees ns (negated x ls) _ (on _ _ _ _ ∙ ap (λ (s : List ℕ). go ns (wireMore x ls s l u 0 (t .place))) (spelled text pos t sees nm)
+      ∙ ap₂ (λ (i j : ℕ). go ns (wireMore x ls (bytesOf text t) i j 0 (t .place))) (sym (st .low) ∙ sym el) (sym (st .wide) ∙ sym ew)))
 
 -- ---- the name of a define
 
@@ -447,20 +529,23 @@ module _ (text P : List ℕ) (pos c h : ℕ) (t : Seen) (sees : Sees text pos t)
 
     pub define-read : q .tests + n ≤ most → (other a l w free all new : ℕ) (b : Bool) (r : Condition) (Q : List ℕ)
         → other ≡ part2 (at P (cell + 1)) → a ≡ part0 (at P (cell + 1)) → b ≡ eqb a 1 → l ≡ at P (cell + 2) → w ≡ at P (cell + 3)
-        → Joined q l w b r → LinkedBoth P c (q .tests) (q .link) n other free all new Q → Adds text (byDefine text t ds) P (t .place) c h q most (answered 0 (t .after) free (retested r all new)) Q
-    define-read few other a l w free all new b r Q eo ea eb el ew j k =
+        → Joined q l w b r → LinkedBoth P c (q .tests) (q .link) n other free all new Q
+        → (own held last : ℕ) (R : List ℕ) → own ≡ part3 (at P (cell + 1)) → HeldBoth Q free (q .held) own last held R
+        → Adds text (byDefine text t ds) P (t .place) c h q most (answered 0 (t .after) last (reheld (retested r all new) held)) R
+    define-read few other a l w free all new b r Q eo ea eb el ew j k own held last R eh u =
+        let x = extends-then (k .extends) (u .extends) in
         record {
-          long = k .extends .long;
+          long = x .long;
           outcome = fine refl (record {
-            extends = k .extends;
-            spent = link-spent text (t .place) c (t .after) free (past-place text pos t sees name) (inside-text text pos t sees .1) (k .few);
+            extends = x;
+            spent = link-spent text (t .place) c (t .after) last (past-place text pos t sees name) (inside-text text pos t sees .1) (omega (arith, k .few, u .few));
             few = λ o.
                 let (ls, e) = g .condition in
                 let b = k .both ls ds (e .tests) (define-tests ds d n other en eo) in
                 omega (arith, b .count, e .tests .count, en ∙ d .tests, count-append ls ds);
             reads = λ ns y ls e. (
               ls ++ ds,
-              define-added P c free all new Q q r l w b n other ls ds e j (el ∙ d .looks) (ew ∙ d .wants) (eb ∙ ap (λ (z : ℕ). eqb z 1) (ea ∙ d .agrees) ∙ is-flag (agree ds)) (d .sized) (define-tests ds d n other en eo) k,
+              define-added P c free all new Q q r l w b n other ls ds e j (el ∙ d .looks) (ew ∙ d .wants) (eb ∙ ap (λ (z : ℕ). eqb z 1) (ea ∙ d .agrees) ∙ is-flag (agree ds)) (d .sized) (define-tests ds d n other en eo) k own held last R (subst (λ (z : ℕ). HeldIs P c z ds) (sym eh) (d .helds)) u,
               λ x m. ap (behind text t) (right _ _ _ _ (not-many most (q .tests) n (storeTests ds) x ls m (e .tests .count) (en ∙ d .tests) few)),
             );
           });
@@ -494,12 +579,18 @@ module _ (text P : List ℕ) (pos c h : ℕ) (t : Seen) (sees : Sees text pos t)
   -- what is read by what the name means
   by-meaning : (ns : Names) (x : Context) (ls : List Literal) (o : Option Meaning) → lookup (bytesOf text t) (ns .declared) ≡ o
       → byName text t ns x ls ≡ behind text t (byKind o
-      (λ lo width. go ns (wireMore x ls lo width 1 (t .place)))
+      (λ lo width. go ns (wireMore x ls (bytesOf text t) lo width 1 (t .place)))
       (λ s width. unless (tooMany x ls 1) crowded (seen text t) (go ns (sign 14 (storeEquals x ls s width))))
       (λ ds. unless (tooMany x ls (storeTests ds)) crowded (seen text t) (go ns (literalMore x (ls ++ ds))))
       (noExp (seen text t)) (fault 4 (t .place)))
   unfolding literalName seen
-  by-meaning ns x ls o e = ap (behind text t) (known-name text pos t sees name ns o e _ _ _ _)
+  by-meaning ns x ls o e =
+      ap (behind text t) (known-name text pos t sees name ns o e _ _ _ _
+      ∙ ap (λ (s : List ℕ). byKind o
+      (λ lo width. go ns (wireMore x ls s lo width 1 (t .place)))
+      (λ s width. unless (tooMany x ls 1) crowded (seen text t) (go ns (sign 14 (storeEquals x ls s width))))
+      (λ ds. unless (tooMany x ls (storeTests ds)) crowded (seen text t) (go ns (literalMore x (ls ++ ds))))
+      (noExp (seen text t)) (fault 4 (t .place))) (spelled text pos t sees name))
 
   -- the meaning that the cell has
   pub meant : (cell ≡ 0 → ⊥) → (ns : Names) → Cells text P c h (ns .declared) → (m : Meaning) × (lookup (bytesOf text t) (ns .declared) ≡ some m) × Means P c cell m
@@ -532,15 +623,15 @@ module _ (text P : List ℕ) (pos c h : ℕ) (t : Seen) (sees : Sees text pos t)
         (rw (i .wide) (i .some), rw (i .low, i .wide) (i .inside))
 
     pub name-wires : kind ≡ 0 → (lo w : ℕ) → lo ≡ part0 (at P (cell + 1)) → w ≡ part1 (at P (cell + 1)) → (r : Literals) (Q : List ℕ)
-        → Adds text (λ ns x ls. readFrom text (t .after) ns (wireMore x ls lo w 1 (t .place))) P (t .after) c h q most r Q → Adds text (byName text t) P (t .place) c h q most r Q
+        → Adds text (λ ns x ls. readFrom text (t .after) ns (wireMore x ls (bytesOf text t) lo w 1 (t .place))) P (t .after) c h q most r Q → Adds text (byName text t) P (t .place) c h q most r Q
     unfolding byKind
     name-wires z lo w el ew r Q =
-        let there : From = λ ns x ls. readFrom text (t .after) ns (wireMore x ls lo w 1 (t .place)) in
+        let there : From = λ ns x ls. readFrom text (t .after) ns (wireMore x ls (bytesOf text t) lo w 1 (t .place)) in
         from-there text (byName text t) there P (t .place) (t .after) c h q most r Q (let l = past-place text pos t sees name in omega arith) (λ ns k x ls.
         let (m, l, y) = meant n ns k in
         let (a, b, e, i) = input-of P c cell m y (numbered m y ∙ z) in
         by-meaning ns x ls (some (anInput a b)) (l ∙ ap some e)
-        ∙ ap₂ (λ (u v : ℕ). readFrom text (t .after) ns (wireMore x ls u v 1 (t .place))) (sym (el ∙ i .low)) (sym (ew ∙ i .wide)))
+        ∙ ap₂ (λ (u v : ℕ). readFrom text (t .after) ns (wireMore x ls (bytesOf text t) u v 1 (t .place))) (sym (el ∙ i .low)) (sym (ew ∙ i .wide)))
 
     pub define-at : kind ≡ 2 → (ds : List Literal) × DefineAt P c cell ds
     define-at z = let (ns, k) = g .names in let (m, l, y) = meant n ns k in let (ds, e, d) = define-of P c cell m y (numbered m y ∙ z) in (ds, d)
@@ -576,7 +667,7 @@ module _ (text P : List ℕ) (pos c h : ℕ) (t : Seen) (sees : Sees text pos t)
         by-meaning ns x ls (some a) l ∙ by ns x ls a (numbered a y))
       where
         by : (ns : Names) (x : Context) (ls : List Literal) (m : Meaning) → kindNumber m ≡ kind → behind text t (byKind (some m)
-            (λ lo width. go ns (wireMore x ls lo width 1 (t .place)))
+            (λ lo width. go ns (wireMore x ls (bytesOf text t) lo width 1 (t .place)))
             (λ s width. unless (tooMany x ls 1) crowded (seen text t) (go ns (sign 14 (storeEquals x ls s width))))
             (λ ds. unless (tooMany x ls (storeTests ds)) crowded (seen text t) (go ns (literalMore x (ls ++ ds))))
             (noExp (seen text t)) (fault 4 (t .place))) ≡ refused 4 (byte (t .place))

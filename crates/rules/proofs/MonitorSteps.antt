@@ -119,9 +119,9 @@ module _ (text P : List ℕ) (h pos : ℕ) where
 -- ---- the end
 
 -- a token that is the end, and one that is not
-end-kind : (ns : Names) (ms : List Exp) (u : Placed) (kind : ℕ) (s : List ℕ) (v : ℕ) → (kind ≡ 24 → ⊥) → atEnd ns ms u (tokenOf kind s v) ≡ notHere u
+end-kind : (ns : Names) (ms : List Exp) (u : Placed) (kind : ℕ) (s : List ℕ) (v : ℕ) → (kind ≡ 25 → ⊥) → atEnd ns ms u (tokenOf kind s v) ≡ notHere u
 end-kind ns ms u kind s v n =
-    by-kind (λ (t : Token) (m : ℕ). (m ≡ 24 → ⊥) → atEnd ns ms u t ≡ notHere u) kind s v (λ l o. refl) (λ o. refl) (λ o. refl) (λ w m l g o. refl) (λ o. absurd (o refl)) (λ l o. refl) n
+    by-kind (λ (t : Token) (m : ℕ). (m ≡ 25 → ⊥) → atEnd ns ms u t ≡ notHere u) kind s v (λ l o. refl) (λ o. refl) (λ o. refl) (λ w l g o. refl) (λ o. absurd (o refl)) (λ l o. refl) n
 
 module _ (text P : List ℕ) (h pos f at : ℕ) (M : List ℕ) (n : ℕ) (all : AllListed text P h pos f at M n) where
   pub monitors-refused : (f ≡ 0 → ⊥) → Monitored text P h pos f at M n
@@ -129,14 +129,14 @@ module _ (text P : List ℕ) (h pos f at : ℕ) (M : List ℕ) (n : ℕ) (all : 
   monitors-refused z = faulted z (ill all z)
 
   module _ (z : f ≡ 0) (t : Seen) (sees : Sees text at t) where
-    pub monitors-unended : (t .kind ≡ 24 → ⊥) → Monitored text P h pos (t .fault) (t .place) M n
+    pub monitors-unended : (t .kind ≡ 25 → ⊥) → Monitored text P h pos (t .fault) (t .place) M n
     unfolding AllListed Monitored Listing NotListed step seen
     monitors-unended q =
         faulted (faults text at t sees) (λ c ns l k.
         let (ms, w, on) = well all z c ns l k in
         on ∙ on-step text at t sees ns (textEnd ms) _ (end-kind ns ms (seen text t) (t .kind) _ (t .value) q ∙ not-here text at t sees))
 
-    pub monitors-read : t .kind ≡ 24 → Monitored text P h pos f at M n
+    pub monitors-read : t .kind ≡ 25 → Monitored text P h pos f at M n
     unfolding AllListed Monitored Listing step seen tokenOf
     monitors-read q =
         fine z (λ c ns l k.

@@ -10,7 +10,7 @@ use lib.Dec.{leb}
 use lib.ListN.{length, take, drop}
 use Rattle.lexer.specs.Bytes.{lookup}
 use Rattle.lexer.specs.Tokens as token
-use Rattle.lexer.specs.Tokens.{Placed, tokenAt}
+use Rattle.lexer.specs.Tokens.{Placed, tokenAt, ruleWords}
 use Rattle.lexer.proofs.Sized.{Lies, lies}
 use Rattle.meaning.specs.Answers.{refused, byte}
 use Rattle.refusals.specs.Numbers.{twice, oversize, crowded}
@@ -41,11 +41,11 @@ module _ (text P : List ℕ) (scope : Scope) (pos : ℕ) (noWire full : Bool) (t
     abbrev name : Placed
     name = placed (token.name (bytesOf text t)) (t .place) (t .after)
 
-    is-name : tokenAt text pos ≡ name
+    is-name : tokenAt ruleWords text pos ≡ name
     is-name = sym (e .token) ∙ name-is text pos t e q
 
     -- what it leads to
-    tests : (ns : Names) (next : List ℕ → Step) → newName ns (tokenAt text pos) noWire full next
+    tests : (ns : Names) (next : List ℕ → Step) → newName ns (tokenAt ruleWords text pos) noWire full next
         ≡ unless (isKnown (lookup (bytesOf text t) (ns .declared))) twice name
         (unless noWire oversize name (unless (full || leb 128 (length (ns .declared))) crowded name (next (bytesOf text t))))
     unfolding newName onName ifName
@@ -88,7 +88,7 @@ module _ (text P : List ℕ) (scope : Scope) (pos : ℕ) (noWire full : Bool) (t
           pub new-read : scope .count < 128 → NameRead text P scope pos noWire full 0 (t .place) (t .after)
           unfolding NameRead
           new-read l =
-              let y = subst (Lies text pos) is-name (lies text pos) in
+              let y = subst (Lies text pos) is-name (lies ruleWords text pos) in
               fine refl (record {
                 low = y .grows refl .0;
                 some = y .grows refl .1;
@@ -113,7 +113,7 @@ module _ (text P : List ℕ) (scope : Scope) (pos : ℕ) (noWire full : Bool) (f
   name-read z = well r z
 
   module _ (c : ℕ) (ns : Names) (k : Cells text P c (scope .last) (ns .declared)) (n : scope .count ≡ length (ns .declared)) (x : Expect) (next : List ℕ → Step)
-      (new : step ns x (tokenAt text pos) ≡ newName ns (tokenAt text pos) noWire full next) where
+      (new : step ns x (tokenAt ruleWords text pos) ≡ newName ns (tokenAt ruleWords text pos) noWire full next) where
     pub name-refused : (f ≡ 0 → ⊥) → readFrom text pos ns x ≡ refused f (byte place)
     unfolding NameRead
     name-refused b = on-token text pos _ refl ns x _ (new ∙ ill r b c ns k n next)

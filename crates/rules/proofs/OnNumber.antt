@@ -5,7 +5,7 @@ use mathlib.Core.List.{List}
 use mathlib.Core.Logic.{⊎-elim}
 use Prim.Native.Nat.{ℕ, _<_, _≤_}
 use Rattle.lexer.specs.Tokens as token
-use Rattle.lexer.specs.Tokens.{Placed, tokenAt}
+use Rattle.lexer.specs.Tokens.{Placed, tokenAt, ruleWords}
 use Rattle.meaning.specs.Answers.{refused, byte}
 use Rattle.refusals.specs.Numbers.{oversize}
 use Rattle.meaning.specs.Reading.{Expect, Step, fault, choose, unless, atToken, ifNumber, onNumber, step, andThen}
@@ -15,7 +15,7 @@ use Rattle.rules.specs.Reads.{readFrom, Past, placed, NumberRead}
 use Rattle.rules.proofs.Stepping.{well, ill}
 
 -- reading on by the token that stands at a position
-pub on-token : (text : List ℕ) (at : ℕ) (t : Placed) → tokenAt text at ≡ t → (ns : Names) (x : Expect) (s : Step) → step ns x t ≡ s
+pub on-token : (text : List ℕ) (at : ℕ) (t : Placed) → tokenAt ruleWords text at ≡ t → (ns : Names) (x : Expect) (s : Step) → step ns x t ≡ s
     → readFrom text at ns x ≡ andThen s (λ ms y. readFrom text (t .after) ms y)
 unfolding readFrom
 on-token text at t e ns x s q =

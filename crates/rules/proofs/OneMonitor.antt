@@ -56,6 +56,7 @@ stored-arrays s a = rw (s .rows-stored, s .letters-stored) record {
   table = simp length-sets (a .table);
   looks = simp length-sets (a .looks);
   wants = simp length-sets (a .wants);
+  helds = simp length-sets (a .helds);
   links = simp length-sets (a .links);
   numbers = simp length-sets (a .numbers);
 }

@@ -1,5 +1,5 @@
 -- Rows and letters stored behind one another. Assumes nothing.
-use mathlib.Core.Path.{_≡_, refl, sym, _∙_, ap, ap₂}
+use mathlib.Core.Path.{_≡_, refl, sym, _∙_, ap}
 use mathlib.Core.List.{List, [], _∷_, _++_, map, map-append, append-nil}
 use mathlib.Core.Option.{Option}
 use Prim.Native.Nat.{ℕ, suc, _+_, _*_, _<_}
@@ -9,7 +9,7 @@ use lib.ListN.{length, set, length-append, length-map}
 use lib.Seq.{sets, set-comm}
 use Rattle.meaning.specs.Lists.{each}
 use Rattle.meaning.specs.Expression.{Letter}
-use Rattle.masks.specs.Masks.{look, want}
+use Rattle.masks.specs.Masks.{look, want, held}
 use Rattle.meaning.proofs.ListLaws.{each-append}
 use Rattle.rules.specs.Cells.{Link, testsOn, writesOn}
 use Rattle.rules.specs.Laying.{RowCode, rowWord, withRows, slotWord, slotNumber, twoSlots, slotsOf, LetterLists, letterLists, withLetters}
@@ -55,8 +55,8 @@ rows-two A A₁ A₂ A′ r n x xs ys e p q s =
 
 -- ---- letters
 
-same-letters : {a b c d a′ b′ c′ d′ : List ℕ} → a ≡ a′ → b ≡ b′ → c ≡ c′ → d ≡ d′ → letterLists a b c d ≡ letterLists a′ b′ c′ d′
-same-letters {a} {b} {c} {d} {a′} {b′} {c′} {d′} p q r s = ap₂ (λ (x y : List ℕ). letterLists x y c d) p q ∙ ap₂ (λ (x y : List ℕ). letterLists a′ b′ x y) r s
+same-letters : {a b c d e a′ b′ c′ d′ e′ : List ℕ} → a ≡ a′ → b ≡ b′ → c ≡ c′ → d ≡ d′ → e ≡ e′ → letterLists a b c d e ≡ letterLists a′ b′ c′ d′ e′
+same-letters p q r s t = λ i. letterLists (p i) (q i) (r i) (s i) (t i)
 
 pub two-long : (xs : List Link) → length (twoSlots xs) ≡ 2
 two-long [] = refl
@@ -72,7 +72,8 @@ slots-long f (x ∷ xs) =
 pub letters-behind : (A : LetterLists) (l : ℕ) (xs : List Letter) (n : ℕ) (ys : List Letter) → n ≡ l + length xs
     → withLetters (withLetters A l xs) n ys ≡ withLetters A l (xs ++ ys)
 letters-behind A l xs n ys e =
-    same-letters (mapped-behind (λ x. look (x .literals)) (A .look) l xs n ys e) (mapped-behind (λ x. want (x .literals)) (A .want) l xs n ys e) (four (A .links) slotWord) (four (A .numbers) slotNumber)
+    same-letters (mapped-behind (λ x. look (x .literals)) (A .look) l xs n ys e) (mapped-behind (λ x. want (x .literals)) (A .want) l xs n ys e)
+    (mapped-behind (λ x. held (x .literals)) (A .held) l xs n ys e) (four (A .links) slotWord) (four (A .numbers) slotNumber)
   where
     four : (L : List ℕ) (f : Option Link → ℕ)
         → sets (sets L (4 * l) (each xs (λ x. map f (slotsOf x)))) (4 * n) (each ys (λ x. map f (slotsOf x))) ≡ sets L (4 * l) (each (xs ++ ys) (λ x. map f (slotsOf x)))
@@ -81,12 +82,12 @@ letters-behind A l xs n ys e =
         (omega (arith, slots-long f xs)) (each-append xs ys (λ x. map f (slotsOf x)))
 
 -- one letter
-pub one-letter : (A : LetterLists) (l a b : ℕ) (x : Letter) (C C′ D D′ : List ℕ) → a ≡ look (x .literals) → b ≡ want (x .literals)
+pub one-letter : (A : LetterLists) (l a b h : ℕ) (x : Letter) (C C′ D D′ : List ℕ) → a ≡ look (x .literals) → b ≡ want (x .literals) → h ≡ held (x .literals)
     → C ≡ sets (A .links) (4 * l) (map slotWord (twoSlots (testsOn [] (x .literals)))) → C′ ≡ sets C (4 * l + 2) (map slotWord (twoSlots (writesOn [] (x .writes))))
     → D ≡ sets (A .numbers) (4 * l) (map slotNumber (twoSlots (testsOn [] (x .literals)))) → D′ ≡ sets D (4 * l + 2) (map slotNumber (twoSlots (writesOn [] (x .writes))))
-    → letterLists (set (A .look) l a) (set (A .want) l b) C′ D′ ≡ withLetters A l (x ∷ [])
-one-letter A l a b x C C′ D D′ e f p q r s =
-    same-letters (ap (set (A .look) l) e) (ap (set (A .want) l) f)
+    → letterLists (set (A .look) l a) (set (A .want) l b) (set (A .held) l h) C′ D′ ≡ withLetters A l (x ∷ [])
+one-letter A l a b h x C C′ D D′ e f g p q r s =
+    same-letters (ap (set (A .look) l) e) (ap (set (A .want) l) f) (ap (set (A .held) l) g)
     (q ∙ ap (λ (L : List ℕ). sets L (4 * l + 2) (map slotWord (twoSlots (writesOn [] (x .writes))))) p ∙ two (A .links) slotWord)
     (s ∙ ap (λ (L : List ℕ). sets L (4 * l + 2) (map slotNumber (twoSlots (writesOn [] (x .writes))))) r ∙ two (A .numbers) slotNumber)
   where

@@ -19,12 +19,12 @@ use Rattle.meaning.proofs.ListLaws.{append-∈, one-∈}
 use Rattle.rules.specs.declared.literals.Condition.{Condition}
 use Rattle.rules.specs.declared.parts.Part.{Part}
 use Rattle.words.specs.Words.{quad, part0, part1, part2, part3}
-use Rattle.rules.specs.Cells.{at, Links, testsOn, writesOn, Node, Denotes, coded, flag, ProductionAt}
+use Rattle.rules.specs.Cells.{at, Links, testsOn, writesOn, Node, Denotes, coded, flag, ProductionAt, HeldIs}
 use Rattle.rules.specs.Conditions.{Extends}
 use Rattle.rules.specs.Parts.{present, Summed, PartIs, OptionIs, Within, opOf, Operator, SumOf, JoinMade, StarMade, LetterMade}
-use Rattle.words.proofs.Quads.{quad-0, quad-1, quad-2}
+use Rattle.words.proofs.Quads.{quad-0, quad-1, quad-2, quad-3}
 use Rattle.rules.proofs.Put.{extends-refl, extends-then, put-extends, put-at, put-both, put-first, put-second}
-use Rattle.rules.proofs.Kept.{links-kept, denotes-kept}
+use Rattle.rules.proofs.Kept.{links-kept, denotes-kept, held-kept}
 use Rattle.rules.proofs.Summing.{coded-most, by-kind}
 
 -- ---- what a part is
@@ -73,17 +73,17 @@ kind-small : (kind : ℕ) → Operator kind → kind < 65536
 kind-small kind o = by-kind (λ k op. k < 65536) (omega arith) (omega arith) (omega arith) kind o
 
 -- a word more that is a node: its kind, and what it leads to among the words before it
-module _ (P Q : List ℕ) (c d kind i j : ℕ) (x : Extends P c Q d) (w : at Q c ≡ quad kind i j 0) (more : c < d) (small : c < 65535) (few : kind < 65536)
+module _ (P Q : List ℕ) (c d kind i j k : ℕ) (x : Extends P c Q d) (w : at Q c ≡ quad kind i j k) (more : c < d) (small : c < 65535) (few : kind < 65536)
     (l : i < c) (m : j < c) where
   first : part1 (at Q c) ≡ i
-  first = ap part1 w ∙ quad-1 kind i j 0 (omega arith)
+  first = ap part1 w ∙ quad-1 kind i j k (omega arith)
 
   second : part2 (at Q c) ≡ j
-  second = ap part2 w ∙ quad-2 kind i j 0 (omega arith)
+  second = ap part2 w ∙ quad-2 kind i j k (omega arith)
 
   node : Node Q d c kind
   unfolding Node
-  node = (omega arith, more, ap part0 w ∙ quad-0 kind i j 0 few)
+  node = (omega arith, more, ap part0 w ∙ quad-0 kind i j k few)
 
   first-low : part1 (at Q c) < c
   first-low = rw first l
@@ -98,15 +98,16 @@ module _ (P Q : List ℕ) (c d kind i j : ℕ) (x : Extends P c Q d) (w : at Q c
   second-denotes e a = subst (λ k. Denotes Q d k e) (sym second) (denotes-kept P c Q d x j e a)
 
   denotes-letter : kind ≡ 0 → (y : Letter) → c + 2 < d → at Q (c + 1) ≡ look (y .literals) → at Q (c + 2) ≡ want (y .literals)
-      → Links P c i (testsOn [] (y .literals)) → Links P c j (writesOn [] (y .writes)) → Denotes Q d c (letter y)
+      → Links P c i (testsOn [] (y .literals)) → Links P c j (writesOn [] (y .writes)) → HeldIs P c k (y .literals) → Denotes Q d c (letter y)
   unfolding Denotes
-  denotes-letter z y n a b t u = (
+  denotes-letter z y n a b t u h = (
     rw z at node,
     n,
     a,
     b,
     subst (λ k. Links Q d k (testsOn [] (y .literals))) (sym first) (links-kept P c Q d x i _ t),
     subst (λ k. Links Q d k (writesOn [] (y .writes))) (sym second) (links-kept P c Q d x j _ u),
+    subst (λ k. HeldIs Q d k (y .literals)) (sym (ap part3 w ∙ quad-3 kind i j k (omega (arith, h .low)))) (held-kept P c Q d x k _ h),
   )
 
   denotes-star : kind ≡ 3 → (e : Exp) → Denotes P c i e → Denotes Q d c (star e)
@@ -161,7 +162,7 @@ module _ (P : List ℕ) (c kind : ℕ) (left right : Part) where
       made (some d) e a b =
           part-of _ _ r (opOf kind d e)
           (rw (s .node)
-          (denotes-two P (set P c word) c (c + 1) kind (left .node) (right .node) x (put-at P c word (omega (arith, present-one left n))) (omega (arith, present-one left n)) (omega (arith, present-one left n))
+          (denotes-two P (set P c word) c (c + 1) kind (left .node) (right .node) 0 x (put-at P c word (omega (arith, present-one left n))) (omega (arith, present-one left n)) (omega (arith, present-one left n))
           (kind-small kind k) l m k d e (a .denotes) (b .denotes)))
           (s .sums d e (summed a) (summed b)) (sized-two d e kind k (a .sized) (b .sized))
 
@@ -177,7 +178,7 @@ star-made P c p room small l h f = record {
   few = refl;
   part = λ e y.
       part-of _ _ _ (star e)
-      (denotes-star P (set P c word) c (c + 1) 3 (p .node) 0 x (put-at P c word (omega arith)) (omega arith) (omega arith) (omega arith) l (omega arith) refl e
+      (denotes-star P (set P c word) c (c + 1) 3 (p .node) 0 0 x (put-at P c word (omega arith)) (omega arith) (omega arith) (omega arith) l (omega arith) refl e
       (y .denotes))
       (record {
         letters = y .letters;
@@ -223,7 +224,7 @@ module _ (P : List ℕ) (c u v w : ℕ) (h : c + 3 ≤ length P) where
 
 pub letter-made : (P : List ℕ) (c : ℕ) (q : Condition) (link : ℕ) → c + 3 ≤ length P → length P ≤ 65535 → 1 ≤ c → q .link < c → link < c
     → (i : ℕ) → i ≡ coded (cond (q .agrees) none (some 0))
-    → LetterMade P c q link (set (set (set P c (quad 0 (q .link) link 0)) (c + 1) (q .look)) (c + 2) (q .want)) (c + 3)
+    → LetterMade P c q link (set (set (set P c (quad 0 (q .link) link (q .held))) (c + 1) (q .look)) (c + 2) (q .want)) (c + 3)
     (record { node = c; letters = 1; nullable = false; impossible = i; hollow = 0 })
 unfolding size nullable impossibleAt hollowAt letters
 letter-made P c q link room small n l m i f = record {
@@ -231,15 +232,15 @@ letter-made P c q link room small n l m i f = record {
   few = refl;
   part = λ ls ws k a t b.
       part-of _ _ _ (aLetter ls ws)
-      (denotes-letter P (written P c word (q .look) (q .want) room) c (c + 3) 0 (q .link) link x (first-word P c word (q .look) (q .want) room) (omega arith)
+      (denotes-letter P (written P c word (q .look) (q .want) room) c (c + 3) 0 (q .link) link (q .held) x (first-word P c word (q .look) (q .want) room) (omega arith)
       (omega arith) (omega arith) l m refl _ (omega arith) (second-word P c word (q .look) (q .want) room ∙ a .masks .looks)
-      (third-word P c word (q .look) (q .want) room ∙ a .masks .wants) (a .tests .links t) (b .links))
+      (third-word P c word (q .look) (q .want) room ∙ a .masks .wants) (a .tests .links t) (b .links) (a .helds))
       (record { letters = refl; null = refl; impossible = f ∙ ap (λ z. coded (cond z none (some 0))) (a .masks .agrees); hollow = refl })
       (λ y z. subst (λ k. AllSized (k .literals)) (sym (one-∈ z)) (a .masks .sized));
 }
   where
     word : ℕ
-    word = quad 0 (q .link) link 0
+    word = quad 0 (q .link) link (q .held)
 
     x : Extends P c (written P c word (q .look) (q .want) room) (c + 3)
     x = put-three P c word (q .look) (q .want) room

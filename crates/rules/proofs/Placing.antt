@@ -7,8 +7,8 @@ use native.Mathlib.Omega.{arith}
 use lib.ListN.{length, set, length-append}
 use lib.Seq.{sets}
 use Rattle.meaning.specs.Expression.{Letter, Exp, letter, seq, alt, star, pipe, letters, size, rows}
-use Rattle.words.specs.Words.{part0, part1, part2}
-use Rattle.rules.specs.Cells.{at, Link, Node, Denotes, testsOn, writesOn}
+use Rattle.words.specs.Words.{part0, part1, part2, part3}
+use Rattle.rules.specs.Cells.{at, Link, Node, Denotes, testsOn, writesOn, heldAt}
 use Rattle.rules.specs.Laying.{rowCode, rowCodes, withRows, slotWord, slotNumber, twoSlots, LetterLists, letterLists, withLetters, LinksAt, SomeLinks, LetterAt, SomeLetter, ExpAt, SomeExp, Stored}
 use Rattle.rules.proofs.Overlay.{row-before, rows-two, letters-behind, one-letter}
 
@@ -27,6 +27,11 @@ module _ (P : List ℕ) (n : ℕ) where
   unfolding Denotes
   writes-at c x s = record { within = s .within; links = s .denotes .5 }
 
+  -- where its wires to be as before are
+  pub held-inside : (k : ℕ) → k ≡ part3 (at P n) → SomeLetter P n → k < length P
+  unfolding Denotes
+  held-inside k e (c, x, s) = omega (arith, e, s .denotes .6 .low, s .within)
+
   pub some-tests : (i : ℕ) → i ≡ part1 (at P n) → SomeLetter P n → SomeLinks P i
   some-tests i e (c, x, s) = rw e (c, testsOn [] (x .literals), tests-at c x s)
 
@@ -38,14 +43,14 @@ module _ (P : List ℕ) (n : ℕ) where
   PutLinks i at A A′ B B′ =
       (c : ℕ) → (xs : List Link) → LinksAt P c i xs → (A′ ≡ sets A at (map slotWord (twoSlots xs))) × (B′ ≡ sets B at (map slotNumber (twoSlots xs)))
 
-  pub letter-put : (l : ℕ) (A : LetterLists) (C C′ D D′ : List ℕ) (i j : ℕ) → i ≡ part1 (at P n) → j ≡ part2 (at P n)
+  pub letter-put : (l : ℕ) (A : LetterLists) (C C′ D D′ : List ℕ) (i j k m : ℕ) → i ≡ part1 (at P n) → j ≡ part2 (at P n) → k ≡ part3 (at P n) → m ≡ heldAt P k
       → PutLinks i (4 * l) (A .links) C (A .numbers) D → PutLinks j (4 * l + 2) C C′ D D′
-      → (c : ℕ) → (x : Letter) → LetterAt P c n x → letterLists (set (A .look) l (at P (n + 1))) (set (A .want) l (at P (n + 2))) C′ D′ ≡ withLetters A l (x ∷ [])
+      → (c : ℕ) → (x : Letter) → LetterAt P c n x → letterLists (set (A .look) l (at P (n + 1))) (set (A .want) l (at P (n + 2))) (set (A .held) l m) C′ D′ ≡ withLetters A l (x ∷ [])
   unfolding Denotes
-  letter-put l A C C′ D D′ i j e f t w c x s =
+  letter-put l A C C′ D D′ i j k m e f g h t w c x s =
       let (p, q) = t c (testsOn [] (x .literals)) (rw e (tests-at c x s)) in
       let (u, v) = w c (writesOn [] (x .writes)) (rw f (writes-at c x s)) in
-      one-letter A l (at P (n + 1)) (at P (n + 2)) x C C′ D D′ (s .denotes .2) (s .denotes .3) p u q v
+      one-letter A l (at P (n + 1)) (at P (n + 2)) m x C C′ D D′ (s .denotes .2) (s .denotes .3) (h ∙ ap (heldAt P) g ∙ s .denotes .6 .mask) p u q v
 
 -- ---- the three forms
 

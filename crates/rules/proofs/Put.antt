@@ -1,14 +1,16 @@
 -- Writing words: those in use stay as they are. Assumes nothing.
-use mathlib.Core.Path.{_≡_, refl, _∙_, ap}
+use mathlib.Core.Path.{_≡_, refl, sym, _∙_, ap, ap₂}
 use mathlib.Core.List.{List}
-use mathlib.Core.Bool.{Bool, true, false, not, _&&_}
+use mathlib.Core.Bool.{Bool, true, false, not, cond, _&&_}
 use Prim.Native.Nat.{ℕ, _+_, _<_, _≤_}
 use native.Mathlib.Omega.{arith}
+use borrow.Author.Tests.{eq-eqb, ne-eqb}
+use lib.Bits.{bitOr, or-zero-l, or-zero-r}
 use lib.ListN.{length, set, length-set}
 use lib.Seq.{getD-set-same, getD-set-other}
 use Rattle.words.specs.Words.{quad, part0, part1, part2, part3}
-use Rattle.rules.specs.Cells.{at, link, LinkAt}
-use Rattle.rules.specs.Conditions.{Extends, Linked}
+use Rattle.rules.specs.Cells.{at, link, LinkAt, heldAt}
+use Rattle.rules.specs.Conditions.{Extends, Linked, HeldBoth}
 use Rattle.words.proofs.Quads.{quad-0, quad-1, quad-2, quad-3}
 
 pub extends-refl : (P : List ℕ) (c : ℕ) → Extends P c P c
@@ -86,3 +88,34 @@ pub as-masks : (a b c : Bool) → not a ≡ false → not b ≡ false → c ≡ 
 as-masks true true c d e = refl
 as-masks true false c d e = absurd (let z : _≡_ {A = ℕ} 0 1 = cc in omega arith)
 as-masks false b c d e = absurd (let z : _≡_ {A = ℕ} 0 1 = cc in omega arith)
+
+-- ---- wires that must be as before
+
+module _ (P : List ℕ) (i : ℕ) where
+  pub held-none : i ≡ 0 → 0 ≡ heldAt P i
+  held-none e = sym (ap (λ (b : Bool). cond {A = ℕ} b 0 (at P i)) (eq-eqb i 0 e))
+
+  pub held-some : (i ≡ 0 → ⊥) → at P i ≡ heldAt P i
+  held-some n = sym (ap (λ (b : Bool). cond {A = ℕ} b 0 (at P i)) (ne-eqb i 0 n))
+
+-- those of one alone, and a word for those of both
+module _ (P : List ℕ) (c one other : ℕ) where
+  pub held-one : other ≡ 0 → one < c → HeldBoth P c one other c one P
+  held-one e l =
+      record { extends = extends-refl P c; few = omega arith; shared = λ z. refl; low = l; mask = sym (or-zero-r (heldAt P one)) ∙ ap (bitOr (heldAt P one)) (held-none P other e) }
+
+  pub held-other : one ≡ 0 → other < c → HeldBoth P c one other c other P
+  held-other e l =
+      record { extends = extends-refl P c; few = omega arith; shared = λ z. refl; low = l; mask = sym (or-zero-l (heldAt P other)) ∙ ap (λ (n : ℕ). bitOr n (heldAt P other)) (held-none P one e) }
+
+  pub held-put : (one ≡ 0 → ⊥) → (other ≡ 0 → ⊥) → one < c → c < length P
+      → HeldBoth P c one other (c + 1) c (set P c (bitOr (at P one) (at P other)))
+  held-put n m l h =
+      let word = bitOr (at P one) (at P other) in
+      record {
+        extends = put-extends P c word h;
+        few = omega arith;
+        shared = λ z. absurd (n z);
+        low = omega arith;
+        mask = sym (held-some (set P c word) c (λ z. omega arith)) ∙ put-at P c word h ∙ ap₂ bitOr (held-some P one n) (held-some P other m);
+      }

@@ -7,7 +7,7 @@ use native.Mathlib.Omega.{arith}
 use lib.Dec.{eqb, eqb→eq}
 use lib.ListN.{length, length-append, length-map, getD, take, replicate, length-replicate, set, length-set}
 use lib.Seq.{sets, set-out, length-take-le, take-suc}
-use Rattle.masks.specs.Masks.{look, want}
+use Rattle.masks.specs.Masks.{look, want, held}
 use Rattle.meaning.specs.Lists.{each}
 use Rattle.meaning.specs.Expression.{Letter, Exp, letter, seq, alt, star, pipe, letters, size, rows, renumbered}
 use Rattle.meaning.proofs.Numbering.{renumbered-size, renumbered-rows}
@@ -177,6 +177,7 @@ tables-renumbered A i r l ms =
       all-codes r l ms,
       each-renumbered (λ x. look (x .literals)) (λ x k. refl) ms,
       each-renumbered (λ x. want (x .literals)) (λ x k. refl) ms,
+      each-renumbered (λ x. held (x .literals)) (λ x k. refl) ms,
       flat-renumbered (λ x. map slotWord (slotsOf x)) (λ x k. refl) ms,
       flat-renumbered (λ x. map slotNumber (slotsOf x)) (λ x k. refl) ms,
       all-starts rows (renumbered-rows 0) r ms,

@@ -5,9 +5,9 @@ use Prim.Native.Nat.{ℕ, _+_, _-_, _*_, _<_, _≤_}
 use native.Mathlib.Omega.{arith}
 use lib.ListN.{length}
 use Rattle.lexer.specs.Tokens as token
-use Rattle.lexer.specs.Tokens.{Token, Placed, tokenAt}
+use Rattle.lexer.specs.Tokens.{Token, Placed, tokenAt, ruleWords}
 use Rattle.meaning.specs.Answers.{refused, byte}
-use Rattle.meaning.specs.Reading.{statement, monitorName, go, notHere, behindWord, begin, step}
+use Rattle.meaning.specs.Reading.{Expect, statement, monitorName, go, notHere, choose, ifNumber, begin, step}
 use Rattle.meaning.specs.Names.{Names, noNames}
 use Rattle.rules.specs.declared.declarations.Scope.{Scope}
 use Rattle.rules.specs.declared.declarations.Declared.{Declared}
@@ -17,6 +17,7 @@ use Rattle.rules.specs.Cells.{Cells, Declared as SomeNames}
 use Rattle.rules.specs.Reads.{readFrom, Unless, fine, faulted, placed}
 use Rattle.rules.specs.Scopes.{Ready, Added, Refuses, Declares}
 use Rattle.rules.specs.Statements.{Listing, NotListed, Monitored, Declaring, Stated, TextRead}
+use Rattle.meaning.proofs.Outcomes.{ByWord, begins-input, begins-store, begins-define, begins-monitor, compared-past}
 use Rattle.rules.proofs.Stepping.{well, ill, faults, past, on-step, not-here, by-kind, name-is}
 use Rattle.rules.proofs.TaskLaws.{room-on, room-after}
 use Rattle.rules.proofs.Declaring.{answered}
@@ -27,7 +28,14 @@ use Rattle.rules.proofs.Declaring.{answered}
 none-kind : (ns : Names) (u : Placed) (kind : ℕ) (s : List ℕ) (v : ℕ) → (kind ≡ 18 → ⊥) → (20 ≤ kind → kind < 24 → ⊥) → begin ns u (tokenOf kind s v) ≡ notHere u
 none-kind ns u kind s v a b =
     by-kind (λ (t : Token) (m : ℕ). (m ≡ 18 → ⊥) → (20 ≤ m → m < 24 → ⊥) → begin ns u t ≡ notHere u) kind s v
-    (λ l x y. refl) (λ x y. absurd (x refl)) (λ x y. refl) (λ w m l g x y. absurd (y l g)) (λ x y. refl) (λ l x y. refl) a b
+    (λ l x y. refl) (λ x y. absurd (x refl)) (λ x y. refl) (λ w l g x y. word w y) (λ x y. refl) (λ l x y. refl) a b
+  where
+    word : (w : token.Word) → (20 ≤ wordKind w → wordKind w < 24 → ⊥) → begin ns u (token.word w) ≡ notHere u
+    word token.input y = absurd (y (omega arith) (omega arith))
+    word token.internal y = absurd (y (omega arith) (omega arith))
+    word token.define y = absurd (y (omega arith) (omega arith))
+    word token.monitor y = absurd (y (omega arith) (omega arith))
+    word token.past y = refl
 
 module _ (text : List ℕ) (pos : ℕ) (t : Seen) (sees : Sees text pos t) where
   word-is : (w : token.Word) → t .kind ≡ wordKind w → seen text t ≡ placed (token.word w) (t .place) (t .after)
@@ -36,33 +44,42 @@ module _ (text : List ℕ) (pos : ℕ) (t : Seen) (sees : Sees text pos t) where
   word-is token.internal q = rw q
   word-is token.define q = rw q
   word-is token.monitor q = rw q
+  word-is token.past q = rw q
 
-  word-on : (w : token.Word) → t .kind ≡ wordKind w → (ns : Names) → readFrom text pos ns statement ≡ readFrom text (t .after) ns (behindWord w)
-  unfolding step
-  word-on w q ns = on-step text pos t sees ns statement (go ns (behindWord w)) (ap (step ns statement) (word-is w q))
+  word-on : {w : token.Word} {x y : Expect} → ByWord w x y → t .kind ≡ wordKind w → (ns : Names) → readFrom text pos ns x ≡ readFrom text (t .after) ns y
+  unfolding step ifNumber choose
+  word-on {w} {x} {y} n q ns = on-step text pos t sees ns x (go ns y) (ap (step ns x) (word-is w q) ∙ steps n)
+    where
+      steps : {w : token.Word} {x y : Expect} → ByWord w x y → step ns x (placed (token.word w) (t .place) (t .after)) ≡ go ns y
+      steps begins-input = refl
+      steps begins-store = refl
+      steps begins-define = refl
+      steps begins-monitor = refl
+      steps compared-past = refl
 
   word-past : (w : token.Word) → t .kind ≡ wordKind w → (pos < t .after) × (t .after ≤ length text)
   word-past w q = past text pos t sees (few w q)
     where
-      few : (w : token.Word) → t .kind ≡ wordKind w → t .kind < 24
+      few : (w : token.Word) → t .kind ≡ wordKind w → t .kind < 25
       few token.input q = omega arith
       few token.internal q = omega arith
       few token.define q = omega arith
       few token.monitor q = omega arith
+      few token.past q = omega arith
 
-  pub name-at : t .kind ≡ 18 → (s : List ℕ) × (place : ℕ) × (after : ℕ) × (tokenAt text pos ≡ placed (token.name s) place after)
+  pub name-at : t .kind ≡ 18 → (s : List ℕ) × (place : ℕ) × (after : ℕ) × (tokenAt ruleWords text pos ≡ placed (token.name s) place after)
   name-at q = (_, _, _, sym (sees .token) ∙ name-is text pos t sees q)
 
   module _ (P S : List ℕ) (c : ℕ) (scope : Scope) where
     pub word-ready : (w : token.Word) → t .kind ≡ wordKind w → Ready text P S pos c scope → Ready text P S (t .after) c scope
     word-ready w q r = let p = word-past w q in record { room = room-on (r .room) (omega arith) (p .1); short = r .short; values = r .values; names = r .names }
 
-    pub word-declares : (w : token.Word) → t .kind ≡ wordKind w → (r : Declared) (Q T : List ℕ) → Declares text (behindWord w) P S (t .after) c scope r Q T
-        → Declares text statement P S pos c scope r Q T
-    word-declares w q r Q T d = record { words = d .words; values = d .values; outcome = by (d .outcome) }
+    pub word-declares : {w : token.Word} {x y : Expect} → ByWord w x y → t .kind ≡ wordKind w → (r : Declared) (Q T : List ℕ) → Declares text y P S (t .after) c scope r Q T
+        → Declares text x P S pos c scope r Q T
+    word-declares {w} {x} {y} v q r Q T d = record { words = d .words; values = d .values; outcome = by (d .outcome) }
       where
-        by : Unless (r .fault) (Added text (behindWord w) P S (t .after) c scope r Q T) (Refuses text (behindWord w) P S (t .after) c scope (r .fault) (r .at))
-            → Unless (r .fault) (Added text statement P S pos c scope r Q T) (Refuses text statement P S pos c scope (r .fault) (r .at))
+        by : Unless (r .fault) (Added text y P S (t .after) c scope r Q T) (Refuses text y P S (t .after) c scope (r .fault) (r .at))
+            → Unless (r .fault) (Added text x P S pos c scope r Q T) (Refuses text x P S pos c scope (r .fault) (r .at))
         by (fine z a) =
             let p = word-past w q in
             let s = a .spent in
@@ -70,9 +87,9 @@ module _ (text : List ℕ) (pos : ℕ) (t : Seen) (sees : Sees text pos t) where
               extends = a .extends;
               spent = record { since = omega (arith, s .since); inside = s .inside; few = omega (arith, s .few) };
               further = omega (arith, a .further);
-              reads = λ ns k. let (ms, m, on) = a .reads ns k in (ms, m, word-on w q ns ∙ on);
+              reads = λ ns k. let (ms, m, on) = a .reads ns k in (ms, m, word-on v q ns ∙ on);
             })
-        by (faulted n a) = faulted n (λ ns k. word-on w q ns ∙ a ns k)
+        by (faulted n a) = faulted n (λ ns k. word-on v q ns ∙ a ns k)
 
     pub none-declares : (t .kind ≡ 18 → ⊥) → (20 ≤ t .kind → t .kind < 24 → ⊥) → Declares text statement P S pos c scope (answered (t .fault) (t .place) c scope) P S
     unfolding step seen
@@ -106,7 +123,7 @@ module _ (text P S : List ℕ) (d : Declared) (so : Declaring text P S d stateme
   pub declared-monitor : (t : Seen) → Sees text (d .at) t → t .kind ≡ 23 → Declaring text P S (answered 0 (t .after) (d .free) (d .scope)) (monitorName [])
   declared-monitor t sees q =
       let p = word-past text (d .at) t sees token.monitor q in
-      record { room = room-on (so .room) (omega arith) (p .1); names = so .names; known = so .known; reads = so .reads ∙ word-on text (d .at) t sees token.monitor q (so .names) }
+      record { room = room-on (so .room) (omega arith) (p .1); names = so .names; known = so .known; reads = so .reads ∙ word-on text (d .at) t sees begins-monitor q (so .names) }
 
   module _ (r : Declared) (Q T : List ℕ) (one : Declares text statement P S (d .at) (d .free) (d .scope) r Q T) where
     pub declared-refused : (r .fault ≡ 0 → ⊥) → readFrom text 0 noNames statement ≡ refused (r .fault) (byte (r .at))

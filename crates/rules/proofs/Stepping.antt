@@ -9,14 +9,14 @@ use lib.Dec.{eqb, ltb}
 use lib.ListN.{length, take, drop}
 use borrow.Author.Tests.{lt-ltb, le-ltb, ltb-true, ltb-false, eq-eqb, ne-eqb, eqb-true, eqb-false}
 use Rattle.lexer.specs.Tokens as token
-use Rattle.lexer.specs.Tokens.{Token, Placed, goesOn, tokenAt}
+use Rattle.lexer.specs.Tokens.{Token, Placed, goesOn, tokenAt, ruleWords}
 use Rattle.lexer.proofs.Sized.{lies}
 use Rattle.meaning.specs.Answers.{refused}
-use Rattle.meaning.specs.Reading.{Expect, sign, nought, Step, go, fault, isSign, is, choose, unless, atToken, numberOf, notHere, ifName, onName, ifNumber, onNumber, step, andThen}
+use Rattle.meaning.specs.Reading.{Expect, sign, nought, Step, go, fault, isSign, is, choose, unless, atToken, numberOf, notHere, ifName, onName, ifNumber, onNumber, step, andThen, isPast, spellingOf}
 use Rattle.meaning.specs.Names.{Names}
 use Rattle.meaning.proofs.Stops.{read-from}
 use Rattle.rules.specs.declared.tokens.Seen.{Seen}
-use Rattle.rules.specs.Seen.{tokenOf, faultOf, seen, Sees}
+use Rattle.rules.specs.Seen.{wordKind, tokenOf, faultOf, seen, Sees}
 use Rattle.rules.specs.Reads.{readFrom, Unless, fine, faulted, Past, Behind, placed, NoNumber, NumberRead}
 
 -- ---- answers
@@ -30,7 +30,7 @@ ill (fine z a) n = absurd (n z)
 ill (faulted m b) n = b
 
 pub faulty : (k : ℕ) → faultOf k ≡ 0 → ⊥
-faulty k = by (ltb k 25)
+faulty k = by (ltb k 26)
   where
     by : (b : Bool) → _≡_ {A = ℕ} (cond b 3 2) 0 → ⊥
     by true e = omega arith
@@ -54,18 +54,18 @@ module _ (Q : Token → ℕ → Type 0) (k : ℕ) where
       by false e = b (ltb-false k 18 e)
 
   pub by-kind : (s : List ℕ) (v : ℕ) → (k < 18 → Q (token.sign k) k) → Q (token.name s) 18 → Q (token.number v) 19
-      → ((w : token.Word) → (n : ℕ) → 20 ≤ n → n < 24 → Q (token.word w) n) → Q token.end 24 → (25 ≤ k → Q (token.refused 2) k) → Q (tokenOf k s v) k
+      → ((w : token.Word) → 20 ≤ wordKind w → wordKind w < 25 → Q (token.word w) (wordKind w)) → Q token.end 25 → (26 ≤ k → Q (token.refused 2) k) → Q (tokenOf k s v) k
   unfolding tokenOf
   by-kind s v sg nm nu wd en kn =
       low _ _ sg (λ l.
       pick 18 _ _ l nm (λ a. pick 19 _ _ a nu (λ b.
-      pick 20 _ _ b (wd token.input 20 (omega arith) (omega arith)) (λ c. pick 21 _ _ c (wd token.internal 21 (omega arith) (omega arith)) (λ d.
-      pick 22 _ _ d (wd token.define 22 (omega arith) (omega arith)) (λ f. pick 23 _ _ f (wd token.monitor 23 (omega arith) (omega arith)) (λ g.
-      pick 24 _ _ g en kn)))))))
+      pick 20 _ _ b (wd token.input (omega arith) (omega arith)) (λ c. pick 21 _ _ c (wd token.internal (omega arith) (omega arith)) (λ d.
+      pick 22 _ _ d (wd token.define (omega arith) (omega arith)) (λ f. pick 23 _ _ f (wd token.monitor (omega arith) (omega arith)) (λ g.
+      pick 24 _ _ g (wd token.past (omega arith) (omega arith)) (λ i. pick 25 _ _ i en kn))))))))
 
 sign-kind : (k kind : ℕ) (s : List ℕ) (v : ℕ) → k < 18 → isSign k (tokenOf kind s v) ≡ eqb k kind
 sign-kind k kind s v h =
-    by-kind (λ (t : Token) (n : ℕ). isSign k t ≡ eqb k n) kind s v (λ l. refl) (other 18 (omega arith)) (other 19 (omega arith)) (λ w n l m. other n (omega arith)) (other 24 (omega arith)) (λ l. other kind (omega arith))
+    by-kind (λ (t : Token) (n : ℕ). isSign k t ≡ eqb k n) kind s v (λ l. refl) (other 18 (omega arith)) (other 19 (omega arith)) (λ w l m. other (wordKind w) (omega arith)) (other 25 (omega arith)) (λ l. other kind (omega arith))
   where
     other : (n : ℕ) → 18 ≤ n → false ≡ eqb k n
     other n l = sym (ne-eqb k n (λ (q : k ≡ n). omega arith))
@@ -74,54 +74,66 @@ sign-kind k kind s v h =
 number-kind : (kind : ℕ) (s : List ℕ) (v : ℕ) → (kind ≡ 19 → ⊥) → (next : ℕ → Step) (other : Step) → ifNumber (tokenOf kind s v) next other ≡ other
 unfolding ifNumber
 number-kind kind s v n next other =
-    by-kind (λ (t : Token) (m : ℕ). (m ≡ 19 → ⊥) → ifNumber t next other ≡ other) kind s v (λ l o. refl) (λ o. refl) (λ o. absurd (o refl)) (λ w m l g o. refl) (λ o. refl) (λ l o. refl) n
+    by-kind (λ (t : Token) (m : ℕ). (m ≡ 19 → ⊥) → ifNumber t next other ≡ other) kind s v (λ l o. refl) (λ o. refl) (λ o. absurd (o refl)) (λ w l g o. refl) (λ o. refl) (λ l o. refl) n
 
 name-kind : (kind : ℕ) (s : List ℕ) (v : ℕ) → (kind ≡ 18 → ⊥) → (next : List ℕ → Step) (other : Step) → ifName (tokenOf kind s v) next other ≡ other
 unfolding ifName
 name-kind kind s v n next other =
-    by-kind (λ (t : Token) (m : ℕ). (m ≡ 18 → ⊥) → ifName t next other ≡ other) kind s v (λ l o. refl) (λ o. absurd (o refl)) (λ o. refl) (λ w m l g o. refl) (λ o. refl) (λ l o. refl) n
+    by-kind (λ (t : Token) (m : ℕ). (m ≡ 18 → ⊥) → ifName t next other ≡ other) kind s v (λ l o. refl) (λ o. absurd (o refl)) (λ o. refl) (λ w l g o. refl) (λ o. refl) (λ l o. refl) n
 
 number-of : (kind : ℕ) (s : List ℕ) (v : ℕ) → numberOf (tokenOf kind s v) ≡ faultOf kind
 number-of kind s v =
-    by-kind (λ (t : Token) (m : ℕ). numberOf t ≡ faultOf m) kind s v (λ l. low kind (omega arith)) refl refl (λ w m l g. low m (omega arith)) refl (λ l. sym (ap (λ (b : Bool). cond {A = ℕ} b 3 2) (le-ltb kind 25 l)))
+    by-kind (λ (t : Token) (m : ℕ). numberOf t ≡ faultOf m) kind s v (λ l. low kind (omega arith)) refl refl (λ w l g. low (wordKind w) (omega arith)) refl (λ l. sym (ap (λ (b : Bool). cond {A = ℕ} b 3 2) (le-ltb kind 26 l)))
   where
-    low : (m : ℕ) → m < 25 → 3 ≡ faultOf m
-    low m l = sym (ap (λ (b : Bool). cond {A = ℕ} b 3 2) (lt-ltb m 25 l))
+    low : (m : ℕ) → m < 26 → 3 ≡ faultOf m
+    low m l = sym (ap (λ (b : Bool). cond {A = ℕ} b 3 2) (lt-ltb m 26 l))
 
-goes-kind : (kind : ℕ) (s : List ℕ) (v : ℕ) → kind < 24 → goesOn (tokenOf kind s v) ≡ true
-goes-kind kind s v = by-kind (λ (t : Token) (m : ℕ). m < 24 → goesOn t ≡ true) kind s v (λ l o. refl) (λ o. refl) (λ o. refl) (λ w m l g o. refl) (λ o. absurd (omega arith)) (λ l o. absurd (omega arith))
+past-kind : (kind : ℕ) (s : List ℕ) (v : ℕ) → isPast (tokenOf kind s v) ≡ eqb kind 24
+past-kind kind s v =
+    by-kind (λ (t : Token) (m : ℕ). isPast t ≡ eqb m 24) kind s v (λ l. sym (ne-eqb kind 24 (λ (q : kind ≡ 24). omega arith))) refl refl (λ w l g. word w) refl
+    (λ l. sym (ne-eqb kind 24 (λ (q : kind ≡ 24). omega arith)))
+  where
+    word : (w : token.Word) → isPast (token.word w) ≡ eqb (wordKind w) 24
+    word token.input = refl
+    word token.internal = refl
+    word token.define = refl
+    word token.monitor = refl
+    word token.past = refl
+
+goes-kind : (kind : ℕ) (s : List ℕ) (v : ℕ) → kind < 25 → goesOn (tokenOf kind s v) ≡ true
+goes-kind kind s v = by-kind (λ (t : Token) (m : ℕ). m < 25 → goesOn t ≡ true) kind s v (λ l o. refl) (λ o. refl) (λ o. refl) (λ w l g o. refl) (λ o. absurd (omega arith)) (λ l o. absurd (omega arith))
 
 -- ---- reading on from a position
 
 module _ (text : List ℕ) (at : ℕ) (t : Seen) (e : Sees text at t) where
-  pub past : t .kind < 24 → Past text at (t .after)
+  pub past : t .kind < 25 → Past text at (t .after)
   unfolding seen
   past l =
-      let z = lies text at in
+      let z = lies ruleWords text at in
       let g = z .grows (sym (ap (λ (u : Placed). goesOn (u .token)) (e .token)) ∙ goes-kind (t .kind) _ (t .value) l) in
       (omega (arith, ap (λ (u : Placed). u .place) (e .token), ap (λ (u : Placed). u .after) (e .token)), omega (arith, z .high, ap (λ (u : Placed). u .after) (e .token)))
 
   pub since : at ≤ length text → at ≤ t .place
   unfolding seen
-  since l = omega (arith, lies text at .since l, ap (λ (u : Placed). u .place) (e .token))
+  since l = omega (arith, lies ruleWords text at .since l, ap (λ (u : Placed). u .place) (e .token))
 
   pub inside-text : (t .place ≤ t .after) × (t .after ≤ length text)
   unfolding seen
   inside-text =
-      let z = lies text at in
+      let z = lies ruleWords text at in
       (omega (arith, z .low, ap (λ (u : Placed). u .place) (e .token), ap (λ (u : Placed). u .after) (e .token)), omega (arith, z .high, ap (λ (u : Placed). u .after) (e .token)))
 
   pub past-place : t .kind ≡ 18 → t .place < t .after
   unfolding seen
   past-place q =
-      let z = lies text at in
+      let z = lies ruleWords text at in
       let g = z .grows (sym (ap (λ (u : Placed). goesOn (u .token)) (e .token)) ∙ goes-kind (t .kind) _ (t .value) (omega arith)) in
       omega (arith, ap (λ (u : Placed). u .place) (e .token), ap (λ (u : Placed). u .after) (e .token))
 
-  pub past-at : t .kind < 24 → t .place < t .after
+  pub past-at : t .kind < 25 → t .place < t .after
   unfolding seen
   past-at q =
-      let z = lies text at in
+      let z = lies ruleWords text at in
       let g = z .grows (sym (ap (λ (u : Placed). goesOn (u .token)) (e .token)) ∙ goes-kind (t .kind) _ (t .value) q) in
       omega (arith, ap (λ (u : Placed). u .place) (e .token), ap (λ (u : Placed). u .after) (e .token))
 
@@ -140,7 +152,7 @@ module _ (text : List ℕ) (at : ℕ) (t : Seen) (e : Sees text at t) where
   unfolding seen
   is-off k l q = sign-kind k (t .kind) _ (t .value) l ∙ ne-eqb k (t .kind) (λ z. q (sym z))
 
-  pub no-sign-at : (k : ℕ) → k < 18 → (t .kind ≡ k → ⊥) → is k (tokenAt text at) ≡ false
+  pub no-sign-at : (k : ℕ) → k < 18 → (t .kind ≡ k → ⊥) → is k (tokenAt ruleWords text at) ≡ false
   no-sign-at k l q = sym (ap (is k) (e .token)) ∙ is-off k l q
 
   -- it is not allowed here
@@ -155,6 +167,13 @@ module _ (text : List ℕ) (at : ℕ) (t : Seen) (e : Sees text at t) where
   pub name-is : t .kind ≡ 18 → seen text t ≡ placed (token.name (take (t .after - t .place) (drop (t .place) text))) (t .place) (t .after)
   unfolding seen tokenOf
   name-is q = rw q
+
+  pub spelled : t .kind ≡ 18 → spellingOf (seen text t .token) ≡ take (t .after - t .place) (drop (t .place) text)
+  spelled q = ap (λ (u : Placed). spellingOf (u .token)) (name-is q)
+
+  pub is-past : isPast (seen text t .token) ≡ eqb (t .kind) 24
+  unfolding seen
+  is-past = past-kind (t .kind) _ (t .value)
 
   pub no-name : (t .kind ≡ 18 → ⊥) → (next : List ℕ → Step) → onName (seen text t) next ≡ fault (t .fault) (t .place)
   unfolding onName seen

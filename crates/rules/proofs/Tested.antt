@@ -7,18 +7,19 @@ use Prim.Native.Nat.{ℕ, _+_, _-_, _*_, _^_, _<_, _≤_}
 use native.Mathlib.Omega.{arith}
 use lib.Bits.{bitOr, or-zero-r, and-zero-r}
 use lib.ListN.{length}
-use Rattle.meaning.specs.Expression.{Literal, wire, wire-store, store, storeTests}
+use borrow.Author.Tests.{ne-eqb}
+use Rattle.meaning.specs.Expression.{Literal, wire, wire-store, wire-past, store, storeTests}
 use Rattle.meaning.specs.ShapeTests.{agree, AllSized, Sized}
 use Rattle.meaning.proofs.ListLaws.{cons-∈, no-∈}
 use Rattle.meaning.proofs.Within.{count-append}
-use Rattle.masks.specs.Masks.{look, want, compatible}
-use Rattle.masks.proofs.Masks.{compatible-apart, look-append, want-append, sized-append, agree-append, agree-one}
+use Rattle.masks.specs.Masks.{look, want, held, compatible}
+use Rattle.masks.proofs.Masks.{compatible-apart, look-append, want-append, held-append, sized-append, agree-append, agree-one}
 use Rattle.rules.specs.declared.literals.Condition.{Condition}
 use Rattle.words.specs.Words.{part0, part1, part2}
-use Rattle.rules.specs.Cells.{at, Link, link, LinkAt, Links, testsOn}
-use Rattle.rules.specs.Conditions.{MasksAre, TestsAre, ConditionIs, Joined, Linked, LinkedBoth}
+use Rattle.rules.specs.Cells.{at, Link, link, LinkAt, Links, testsOn, heldAt, HeldIs}
+use Rattle.rules.specs.Conditions.{Extends, MasksAre, TestsAre, ConditionIs, Joined, Linked, LinkedBoth, HeldBoth}
 use Rattle.rules.proofs.Put.{extends-refl}
-use Rattle.rules.proofs.Kept.{links-kept}
+use Rattle.rules.proofs.Kept.{links-kept, tests-kept, held-kept}
 
 -- ---- store tests
 
@@ -27,6 +28,7 @@ unfolding testsOn
 tests-append xs [] ms = refl
 tests-append xs (wire lo w v ∷ ls) ms = tests-append xs ls ms
 tests-append xs (wire-store lo w s ∷ ls) ms = tests-append _ ls ms
+tests-append xs (wire-past lo w ∷ ls) ms = tests-append xs ls ms
 tests-append xs (store s v ∷ ls) ms = tests-append _ ls ms
 
 tests-onto : (xs : List Link) (ls : List Literal) → testsOn xs ls ≡ testsOn [] ls ++ xs
@@ -34,6 +36,7 @@ unfolding testsOn
 tests-onto xs [] = refl
 tests-onto xs (wire lo w v ∷ ls) = tests-onto xs ls
 tests-onto xs (wire-store lo w s ∷ ls) = tests-onto (link s lo w 0 ∷ xs) ls ∙ sym (ap (λ z. z ++ xs) (tests-onto (link s lo w 0 ∷ []) ls) ∙ append-assoc (testsOn [] ls) (link s lo w 0 ∷ []) xs)
+tests-onto xs (wire-past lo w ∷ ls) = tests-onto xs ls
 tests-onto xs (store s v ∷ ls) = tests-onto (link s 0 0 v ∷ xs) ls ∙ sym (ap (λ z. z ++ xs) (tests-onto (link s 0 0 v ∷ []) ls) ∙ append-assoc (testsOn [] ls) (link s 0 0 v ∷ []) xs)
 
 pub tests-length : (xs : List Link) (ls : List Literal) → length (testsOn xs ls) ≡ storeTests ls + length xs
@@ -41,6 +44,7 @@ unfolding testsOn storeTests
 tests-length xs [] = omega arith
 tests-length xs (wire lo w v ∷ ls) = tests-length xs ls
 tests-length xs (wire-store lo w s ∷ ls) = omega (arith, tests-length (link s lo w 0 ∷ xs) ls)
+tests-length xs (wire-past lo w ∷ ls) = tests-length xs ls
 tests-length xs (store s v ∷ ls) = omega (arith, tests-length (link s 0 0 v ∷ xs) ls)
 
 none-tested : (ls : List Literal) → storeTests ls ≡ 0 → (xs : List Link) → testsOn xs ls ≡ xs
@@ -48,6 +52,7 @@ unfolding testsOn storeTests
 none-tested [] e xs = refl
 none-tested (wire lo w v ∷ ls) e xs = none-tested ls e xs
 none-tested (wire-store lo w s ∷ ls) e xs = absurd (omega arith)
+none-tested (wire-past lo w ∷ ls) e xs = none-tested ls e xs
 none-tested (store s v ∷ ls) e xs = absurd (omega arith)
 
 single : (xs : List Link) → length xs ≡ 1 → (y : Link) × (xs ≡ y ∷ [])
@@ -154,10 +159,22 @@ masks-joined q r l w a ls ds m j el ew ea sd =
 one-sized : (l : Literal) → Sized l → AllSized (l ∷ [])
 one-sized l s x i = ⊎-elim (λ e. subst Sized (sym e) s) (λ j. absurd (no-∈ j)) (cons-∈ i)
 
+-- ---- wires that must be as before
+
+-- a literal that holds none
+pub held-same : (P : List ℕ) (c i : ℕ) (ls ds : List Literal) → AllSized ls → AllSized ds → held ds ≡ 0 → HeldIs P c i ls → HeldIs P c i (ls ++ ds)
+held-same P c i ls ds sl sd e h = record { low = h .low; mask = h .mask ∙ sym (held-append ls ds sl sd ∙ ap (bitOr (held ls)) e ∙ or-zero-r _) }
+
+-- those of two lists
+pub held-joined : (P : List ℕ) (c one other free new : ℕ) (Q : List ℕ) (ls ds : List Literal) → AllSized ls → AllSized ds → HeldIs P c one ls → HeldIs P c other ds
+    → HeldBoth P c one other free new Q → HeldIs Q free new (ls ++ ds)
+held-joined P c one other free new Q ls ds sl sd a b k =
+    record { low = k .low; mask = k .mask ∙ ap₂ bitOr (a .mask) (b .mask) ∙ sym (held-append ls ds sl sd) }
+
 -- a wire literal more
 pub wire-added : (P : List ℕ) (c : ℕ) (q r : Condition) (lo width v : ℕ) (ls : List Literal) → v < 2 ^ width → lo + width ≤ 64
     → ConditionIs P c q ls → Joined q ((2 ^ width - 1) * 2 ^ lo) (v * 2 ^ lo) true r → ConditionIs P c r (ls ++ (wire lo width v ∷ []))
-unfolding look want storeTests testsOn
+unfolding look want held storeTests testsOn
 wire-added P c q r lo width v ls h f k j =
     let t : TestsAre P c (r .tests) (r .link) ls = subst (λ n. TestsAre P c n (r .link) ls) (sym (j .tests)) (subst (λ n. TestsAre P c (q .tests) n ls) (sym (j .link)) (k .tests)) in
     record {
@@ -167,6 +184,7 @@ wire-added P c q r lo width v ls h f k j =
         links = λ l. subst (Links P c (r .link)) (sym (tests-append [] ls (wire lo width v ∷ []))) (t .links (omega (arith, count-append ls (wire lo width v ∷ []))));
         low = t .low;
       };
+      helds = held-same P c (r .held) ls (wire lo width v ∷ []) (k .masks .sized) (one-sized _ (h, f)) refl (subst (λ i. HeldIs P c i ls) (sym (j .held)) (k .helds));
     }
 
 -- ---- a store test more
@@ -175,22 +193,27 @@ wire-added P c q r lo width v ls h f k j =
 pub record IsTest (l : Literal) (x : Link) : Type 0 where
   pub looks : look (l ∷ []) ≡ 0
   pub wants : want (l ∷ []) ≡ 0
+  pub helds : held (l ∷ []) ≡ 0
   pub agrees : agree (l ∷ []) ≡ true
   pub sized : Sized l
   pub count : storeTests (l ∷ []) ≡ 1
   pub links : (xs : List Link) → testsOn xs (l ∷ []) ≡ x ∷ xs
 
 pub wire-test : (lo width s : ℕ) → IsTest (wire-store lo width s) (link s lo width 0)
-unfolding look want agree storeTests testsOn
-wire-test lo width s = record { looks = refl; wants = refl; agrees = refl; sized = tt; count = refl; links = λ xs. refl }
+unfolding look want held agree storeTests testsOn
+wire-test lo width s = record { looks = refl; wants = refl; helds = refl; agrees = refl; sized = tt; count = refl; links = λ xs. refl }
 
 pub store-test : (s v : ℕ) → IsTest (store s v) (link s 0 0 v)
-unfolding look want agree storeTests testsOn
-store-test s v = record { looks = refl; wants = refl; agrees = refl; sized = tt; count = refl; links = λ xs. refl }
+unfolding look want held agree storeTests testsOn
+store-test s v = record { looks = refl; wants = refl; helds = refl; agrees = refl; sized = tt; count = refl; links = λ xs. refl }
 
 -- the condition with other store tests
 abbrev pub retested : Condition → (tests link : ℕ) → Condition
-retested q n i = record { look = q .look; want = q .want; agrees = q .agrees; tests = n; link = i }
+retested q n i = record { look = q .look; want = q .want; agrees = q .agrees; tests = n; link = i; held = q .held }
+
+-- and with other wires to be as before
+abbrev pub reheld : Condition → (held : ℕ) → Condition
+reheld q k = record { look = q .look; want = q .want; agrees = q .agrees; tests = q .tests; link = q .link; held = k }
 
 masks-same : (q : Condition) (n i : ℕ) (ls ds : List Literal) → MasksAre q ls → look ds ≡ 0 → want ds ≡ 0 → agree ds ≡ true → AllSized ds → MasksAre (retested q n i) (ls ++ ds)
 masks-same q n i ls ds m el ew ea sd =
@@ -224,15 +247,41 @@ test-added P c free n i Q q l x ls t k j =
             (cell, subst (λ z. Links Q free z (testsOn [] ls)) (sym back) (links-kept P c Q free (j .extends) (q .link) (testsOn [] ls) (a .links (omega (arith, s, t .count)))));
         low = j .low;
       };
+      helds = held-same Q free (q .held) ls (l ∷ []) (k .masks .sized) (one-sized l (t .sized)) (t .helds) (held-kept P c Q free (j .extends) (q .held) ls (k .helds));
     }
 
 -- a define more
 pub define-added : (P : List ℕ) (c free n i : ℕ) (Q : List ℕ) (q r : Condition) (l w : ℕ) (b : Bool) (more other : ℕ) (ls ds : List Literal)
     → ConditionIs P c q ls → Joined q l w b r → l ≡ look ds → w ≡ want ds → b ≡ agree ds → AllSized ds
-    → TestsAre P c more other ds → LinkedBoth P c (q .tests) (q .link) more other free n i Q → ConditionIs Q free (retested r n i) (ls ++ ds)
-define-added P c free n i Q q r l w b more other ls ds k j el ew eb sd td lb =
+    → TestsAre P c more other ds → LinkedBoth P c (q .tests) (q .link) more other free n i Q
+    → (own new last : ℕ) (R : List ℕ) → HeldIs P c own ds → HeldBoth Q free (q .held) own last new R → ConditionIs R last (reheld (retested r n i) new) (ls ++ ds)
+define-added P c free n i Q q r l w b more other ls ds k j el ew eb sd td lb own new last R ho hb =
     let m = masks-joined q r l w b ls ds (k .masks) j el ew eb sd in
     record {
       masks = record { looks = m .looks; wants = m .wants; agrees = m .agrees; sized = m .sized };
-      tests = lb .both ls ds (k .tests) td;
+      tests = tests-kept Q free R last (hb .extends) n i (ls ++ ds) (lb .both ls ds (k .tests) td);
+      helds = held-joined Q free (q .held) own last new R ls ds (k .masks .sized) sd (held-kept P c Q free (lb .extends) (q .held) ls (k .helds)) (held-kept P c Q free (lb .extends) own ds ho) hb;
+    }
+
+-- a past literal more: its mask is written with that of the wires held before
+pub past-added : (P : List ℕ) (c : ℕ) (q : Condition) (lo width : ℕ) (ls : List Literal) (Q : List ℕ) → lo + width ≤ 64 → Extends P c Q (c + 1) → 1 ≤ c
+    → at Q c ≡ bitOr (heldAt P (q .held)) ((2 ^ width - 1) * 2 ^ lo) → ConditionIs P c q ls → ConditionIs Q (c + 1) (reheld q c) (ls ++ (wire-past lo width ∷ []))
+unfolding look want held agree storeTests testsOn
+past-added P c q lo width ls Q f x one w k =
+    let ds = wire-past lo width ∷ [] in
+    let sd = one-sized (wire-past lo width) f in
+    let m = masks-same q (q .tests) (q .link) ls ds (k .masks) refl refl refl sd in
+    let t = tests-kept P c Q (c + 1) x (q .tests) (q .link) ls (k .tests) in
+    record {
+      masks = record { looks = m .looks; wants = m .wants; agrees = m .agrees; sized = m .sized };
+      tests = record {
+        count = omega (arith, t .count, count-append ls ds);
+        links = λ l. subst (Links Q (c + 1) (q .link)) (sym (tests-append [] ls ds)) (t .links (omega (arith, count-append ls ds)));
+        low = t .low;
+      };
+      helds = record {
+        low = omega arith;
+        mask = rw (ne-eqb c 0 (λ e. omega arith)) (w ∙ ap (λ (n : ℕ). bitOr n ((2 ^ width - 1) * 2 ^ lo)) (k .helds .mask)
+            ∙ ap (bitOr (held ls)) (sym (or-zero-r _)) ∙ sym (held-append ls ds (k .masks .sized) sd));
+      };
     }

@@ -7,7 +7,7 @@ use native.Mathlib.Omega.{arith}
 use borrow.Author.Tests.{le-ltb, lt-ltb}
 use lib.ListN.{length, length-map, take, replicate, length-replicate}
 use lib.Seq.{sets}
-use Rattle.lexer.specs.Tokens.{tokens}
+use Rattle.lexer.specs.Tokens.{tokens, ruleWords}
 use Rattle.meaning.specs.Answers as meaning
 use Rattle.meaning.specs.Expression.{Exp, rows, renumbered}
 use Rattle.meaning.specs.Reading.{statement, readOn, read}
@@ -38,7 +38,7 @@ by-answer text a e o w p q = record { outcome = p ∙ ap countsOf (sym e); watch
 -- an overlong text
 pub right-long : (text : List ℕ) → 16384 < length text → (o : Outcome) (w : Watch) → o ≡ AtByte 1 0 → w ≡ watchBy noLists 0 0 0 0 [] → Right text o w
 unfolding openText read watchOf countsOf
-right-long text l o w p q = by-answer text (meaning.refused 1 (meaning.byte 0)) (ap (λ (b : Bool). andOpen (cond b (meaning.refused 1 (meaning.byte 0)) (readOn noNames statement (tokens text)))) (lt-ltb 16384 (length text) l)) o w (ap shownOutcome p) q
+right-long text l o w p q = by-answer text (meaning.refused 1 (meaning.byte 0)) (ap (λ (b : Bool). andOpen (cond b (meaning.refused 1 (meaning.byte 0)) (readOn noNames statement (tokens ruleWords text)))) (lt-ltb 16384 (length text) l)) o w (ap shownOutcome p) q
 
 -- a watch by its parts
 raw : Lists → (rows letters monitors wires stores : ℕ) → (kept marks places : List ℕ) → Watch
@@ -47,6 +47,7 @@ raw A r l n w s k m p =
       table = A .table;
       look = A .letters-of .look;
       want = A .letters-of .want;
+      held = A .letters-of .held;
       links = A .letters-of .links;
       numbers = A .letters-of .numbers;
       places = p;
@@ -57,6 +58,7 @@ raw A r l n w s k m p =
       monitors = n;
       wires = w;
       stores = s;
+      before = 0;
       values = k;
       marks = m;
       ticks = 0;
@@ -71,9 +73,9 @@ unfolding raw
 same-watch A B r r′ l l′ n n′ w w′ s k m p vs a b c d e f g h i = rw (i, a, b, c, d, e, f, g, h)
 
 module _ (text : List ℕ) (short : length text ≤ 16384) (f pos free wires stores count : ℕ) (Q S M : List ℕ) (t : TextRead text f pos free wires stores count Q S M) where
-  opens : openText text ≡ andOpen (readOn noNames statement (tokens text))
+  opens : openText text ≡ andOpen (readOn noNames statement (tokens ruleWords text))
   unfolding openText read
-  opens = ap (λ (b : Bool). andOpen (cond b (meaning.refused 1 (meaning.byte 0)) (readOn noNames statement (tokens text)))) (le-ltb 16384 (length text) short)
+  opens = ap (λ (b : Bool). andOpen (cond b (meaning.refused 1 (meaning.byte 0)) (readOn noNames statement (tokens ruleWords text)))) (le-ltb 16384 (length text) short)
 
   pub right-byte : (f ≡ 0 → ⊥) → (o : Outcome) (w : Watch) → o ≡ AtByte f pos → w ≡ watchBy noLists 0 0 0 0 [] → Right text o w
   unfolding TextRead watchOf countsOf
@@ -91,7 +93,7 @@ module _ (text : List ℕ) (short : length text ≤ 16384) (f pos free wires sto
     zero-arrays =
         let a = length-replicate {A = ℕ} 1024 0 in
         let b = length-replicate {A = ℕ} 256 0 in
-        record { table = a; looks = b; wants = b; links = a; numbers = a }
+        record { table = a; looks = b; wants = b; helds = b; links = a; numbers = a }
 
     module _ (A : Lists) (r : Opening) (by : (c : ℕ) (ms : List Exp) → MonitorsAre Q c M count ms → OpenedBy (byRules ms) ms noLists A r) where
       opened : Unless (r .fault) ((openProgram (says .program) ≡ meaning.value (asOpened (says .program))) × AllStored (says .program .monitors) noLists A (r .rows) (r .letters))
@@ -115,6 +117,7 @@ module _ (text : List ℕ) (short : length text ≤ 16384) (f pos free wires sto
             table = A .table;
             look = A .letters-of .look;
             want = A .letters-of .want;
+            held = A .letters-of .held;
             links = A .letters-of .links;
             numbers = A .letters-of .numbers;
             places = places;
@@ -125,6 +128,7 @@ module _ (text : List ℕ) (short : length text ≤ 16384) (f pos free wires sto
             monitors = count;
             wires = wires;
             stores = stores;
+            before = 0;
             values = kept;
             marks = marks;
             ticks = 0;

@@ -11,13 +11,13 @@ use borrow.Author.Tests.{ltb-true, lt-ltb}
 use Rattle.lexer.specs.Bytes.{Entry, lookup, same, run, isDigit, isLetter, isNameByte}
 use Rattle.lexer.specs.Signs.{signs}
 use Rattle.lexer.specs.Tokens as token
-use Rattle.lexer.specs.Tokens.{Token, Placed, taken, knot, orSign, orName, words, signToken, nameToken, numberToken, firstToken, tokenAt, nextToken}
+use Rattle.lexer.specs.Tokens.{Token, Placed, taken, knot, orSign, orName, entries, signToken, nameToken, numberToken, firstToken, tokenAt, nextToken, ruleWords}
 use Rattle.meaning.specs.Reading.{numberOf}
 use Rattle.lexer.specs.Shown.{kindShown, shown}
 use Rattle.lexer.specs.declared.Kind.{Kind}
 use Rattle.lexer.specs.declared.Kind.the-variants as kind
 use Rattle.lexer.specs.declared.Word.{Word}
-use Rattle.lexer.specs.declared.Word.the-variants.{Input, Internal, Define, Monitor}
+use Rattle.lexer.specs.declared.Word.the-variants.{Input, Internal, Define, Monitor, Past}
 use Rattle.rules.specs.Seen.{kindOf, valueOf, tokenOf, faultOf, seen, Sees}
 
 -- ---- a sign's number
@@ -56,9 +56,9 @@ sign-small p s other h = by (lookup s signs) refl
     by (some n) e = found-small s n signs refl e
     by none e = h
 
-name-small : (p : ℕ) (s : List ℕ) → Small (nameToken p s .token)
+name-small : (p : ℕ) (s : List ℕ) → Small (nameToken ruleWords p s .token)
 unfolding nameToken
-name-small p s = by (leb (length s) 16) (lookup s words)
+name-small p s = by (leb (length s) 16) (lookup s (entries ruleWords))
   where
     by : (b : Bool) (o : Option token.Word) → Small (cond b (taken p (orName s o) (length s)) (knot p) .token)
     by true none = tt
@@ -73,17 +73,17 @@ number-small p s = by (ltb (token.valueFrom 0 s) (2 ^ 64))
     by true = tt
     by false = tt
 
-first-small : (p : ℕ) (s : List ℕ) → Small (firstToken p s .token)
+first-small : (p : ℕ) (s : List ℕ) → Small (firstToken ruleWords p s .token)
 unfolding firstToken signToken
 first-small p [] = tt
 first-small p (b ∷ s) = by (isDigit b) (isLetter b)
   where
-    by : (d l : Bool) → Small (cond d (numberToken p (run isDigit (b ∷ s))) (cond l (nameToken p (run isNameByte (b ∷ s))) (signToken p (b ∷ s))) .token)
+    by : (d l : Bool) → Small (cond d (numberToken p (run isDigit (b ∷ s))) (cond l (nameToken ruleWords p (run isNameByte (b ∷ s))) (signToken p (b ∷ s))) .token)
     by true l = number-small p _
     by false true = name-small p _
     by false false = sign-small p (take 2 (b ∷ s)) _ (sign-small p (take 1 (b ∷ s)) _ tt)
 
-token-small : (s : List ℕ) (at : ℕ) → Small (tokenAt s at .token)
+token-small : (s : List ℕ) (at : ℕ) → Small (tokenAt ruleWords s at .token)
 unfolding tokenAt nextToken
 token-small s at = first-small _ _
 
@@ -95,6 +95,7 @@ of-kind s (kind.Word Input) h = refl
 of-kind s (kind.Word Internal) h = refl
 of-kind s (kind.Word Define) h = refl
 of-kind s (kind.Word Monitor) h = refl
+of-kind s (kind.Word Past) h = refl
 of-kind s (kind.Number n) h = refl
 of-kind s (kind.Sign n) h = rw (lt-ltb n 18 h)
 of-kind s kind.End h = refl
@@ -107,13 +108,14 @@ of-fault s (kind.Word Input) h = refl
 of-fault s (kind.Word Internal) h = refl
 of-fault s (kind.Word Define) h = refl
 of-fault s (kind.Word Monitor) h = refl
+of-fault s (kind.Word Past) h = refl
 of-fault s (kind.Number n) h = refl
-of-fault s (kind.Sign n) h = rw (lt-ltb n 25 (omega arith))
+of-fault s (kind.Sign n) h = rw (lt-ltb n 26 (omega arith))
 of-fault s kind.End h = refl
 of-fault s kind.Knot h = refl
 
 -- the token that the lexer answers with, by numbers
-pub told : (s : List ℕ) (at : ℕ) (k : Kind) (place after : ℕ) → shown s (record { kind = k; place = place; after = after }) ≡ tokenAt s at
+pub told : (s : List ℕ) (at : ℕ) (k : Kind) (place after : ℕ) → shown s (record { kind = k; place = place; after = after }) ≡ tokenAt ruleWords s at
     → (n f v : ℕ) → n ≡ kindOf (kindShown [] k) → f ≡ numberOf (kindShown [] k) → v ≡ valueOf (kindShown [] k)
     → Sees s at (record { kind = n; fault = f; value = v; place = place; after = after })
 unfolding seen

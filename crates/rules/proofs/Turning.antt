@@ -6,7 +6,7 @@ use mathlib.Core.Option.{Option, none, some}
 use Prim.Native.Nat.{ℕ, _+_, _<_, _≤_}
 use native.Mathlib.Omega.{arith}
 use lib.ListN.{length}
-use Rattle.lexer.specs.Tokens.{tokenAt}
+use Rattle.lexer.specs.Tokens.{tokenAt, ruleWords}
 use Rattle.meaning.specs.Expression.{Exp, star}
 use Rattle.meaning.specs.Answers.{refused, byte}
 use Rattle.meaning.specs.Reading.{Open, Level, newLevel, onLevel, isNone, sequenced, whole, behindAt, behindComma, behindBars, operand, operandMore, go, fault, step, is, choose, notHere, behindOperand, onRightParen, onSemicolon}
@@ -94,7 +94,7 @@ module _ (text P : List ℕ) (pos c : ℕ) (t : Seen) (sees : Sees text pos t) (
             ∙ ap₂ (λ (i j : ℕ). refused i (byte j)) (sym f) (sym a));
       }
     where
-      once : (b : Bool) → (b ≡ false → is 3 (tokenAt text pos) ≡ false) → (is 3 (seen text t) && not b) ≡ false
+      once : (b : Bool) → (b ≡ false → is 3 (tokenAt ruleWords text pos) ≡ false) → (is 3 (seen text t) && not b) ≡ false
       once true s = and-false (is 3 (seen text t))
       once false s = ap (λ (x : Bool). x && true) (ap (is 3) (sees .token) ∙ s refl)
 

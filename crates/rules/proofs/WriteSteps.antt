@@ -73,7 +73,7 @@ module _ (text P : List ℕ) (pos at c h n i : ℕ) (from : Names → Letter →
       by (fine z (p, on)) =
           fine z (record {
             extends = k .extends;
-            spent = link-spent text pos c next free (omega arith) (p .1) (k .few);
+            spent = link-spent text pos c next free (omega arith) (p .1) (omega (arith, k .few));
             reads = λ ns d ws a. let (v, e, q) = w ns d in (ws ++ (v ∷ []), write-added P c n i free m j Q v x ws e one a k, λ y g. q y ws ∙ on ns _);
           })
       by (faulted b on) = faulted b (λ ns d ws a y g. let (v, e, q) = w ns d in q y ws ∙ on ns _)

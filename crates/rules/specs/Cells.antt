@@ -1,16 +1,17 @@
--- What the words that a text is read into stand for: store tests and writes, expressions, and the names that are declared (docs/REFERENCE.md, N1). A cell is
+-- What the words that a text is read into stand for: store tests and writes, wires that must be as before, expressions, and the names that are declared (docs/REFERENCE.md, N1). A cell is
 -- known by the index of its first word; index 0 is none. The words below c are in use. Assumes nothing.
-use mathlib.Core.Bool.{Bool, true, false}
+use mathlib.Core.Bool.{Bool, true, false, cond}
 use mathlib.Core.List.{List, [], _∷_}
 use mathlib.Core.Option.{Option, none, some}
 use mathlib.Core.Path.{_≡_}
 use Prim.Native.Nat.{ℕ, _+_, _<_, _≤_, min}
+use lib.Dec.{eqb}
 use lib.ListN.{length, getD, take, drop}
 use Rattle.lexer.specs.Bytes.{Entry, lookup}
-use Rattle.meaning.specs.Expression.{Literal, wire, wire-store, store, Write, from-wire, from-number, Exp, letter, seq, alt, star, pipe, size, storeTests}
+use Rattle.meaning.specs.Expression.{Literal, wire, wire-store, wire-past, store, Write, from-wire, from-number, Exp, letter, seq, alt, star, pipe, size, storeTests}
 use Rattle.meaning.specs.Shape.{nullable}
 use Rattle.meaning.specs.ShapeTests.{agree, AllSized, SizedLetters}
-use Rattle.masks.specs.Masks.{look, want}
+use Rattle.masks.specs.Masks.{look, want, held}
 use Rattle.meaning.specs.Summary.{counted, impossibleAt, hollowAt}
 use Rattle.meaning.specs.Names.{Meaning, anInput, aStore, aDefine, aProduction}
 use Rattle.words.specs.Words.{part0, part1, part2, part3}
@@ -36,6 +37,7 @@ unfoldable pub testsOn : List Link → List Literal → List Link
 testsOn xs [] = xs
 testsOn xs (wire lo width v ∷ ls) = testsOn xs ls
 testsOn xs (wire-store lo width s ∷ ls) = testsOn (link s lo width 0 ∷ xs) ls
+testsOn xs (wire-past lo width ∷ ls) = testsOn xs ls
 testsOn xs (store s v ∷ ls) = testsOn (link s 0 0 v ∷ xs) ls
 
 abbrev pub writeLink : Write → Link
@@ -58,6 +60,17 @@ unfoldable pub Links : List ℕ → (c i : ℕ) → List Link → Type 0
 Links P c i [] = i ≡ 0
 Links P c i (x ∷ xs) = LinkAt P c i x × Links P c (part3 (at P i)) xs
 
+-- ---- wires that must be as before
+
+-- the mask that the word at an index has, or 0 for none
+abbrev pub heldAt : List ℕ → (i : ℕ) → ℕ
+heldAt P i = cond (eqb i 0) 0 (at P i)
+
+-- it is that of the literals; S1: "which must be as in the word before"
+pub record HeldIs (P : List ℕ) (c i : ℕ) (ls : List Literal) : Type 0 where
+  pub low : i < c
+  pub mask : heldAt P i ≡ held ls
+
 -- ---- expressions
 
 -- the node at index k: its kind, and its operands' nodes, which stand before it
@@ -68,6 +81,7 @@ unfoldable pub Denotes : List ℕ → (c k : ℕ) → Exp → Type 0
 Denotes P c k (letter l) =
     Node P c k 0 × (k + 2 < c) × (at P (k + 1) ≡ look (l .literals)) × (at P (k + 2) ≡ want (l .literals))
     × Links P c (part1 (at P k)) (testsOn [] (l .literals)) × Links P c (part2 (at P k)) (writesOn [] (l .writes))
+    × HeldIs P c (part3 (at P k)) (l .literals)
 Denotes P c k (seq e f) =
     Node P c k 1 × (part1 (at P k) < k) × (part2 (at P k) < k) × Denotes P c (part1 (at P k)) e × Denotes P c (part2 (at P k)) f
 Denotes P c k (alt e f) =
@@ -116,6 +130,7 @@ pub record DefineAt (P : List ℕ) (c h : ℕ) (ls : List Literal) : Type 0 wher
   pub low : part2 (at P (h + 1)) < c
   pub looks : at P (h + 2) ≡ look ls
   pub wants : at P (h + 3) ≡ want ls
+  pub helds : HeldIs P c (part3 (at P (h + 1))) ls
   pub sized : AllSized ls
 
 pub record ProductionAt (P : List ℕ) (c h : ℕ) (e : Exp) : Type 0 where

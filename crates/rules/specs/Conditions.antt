@@ -1,5 +1,5 @@
 -- The condition of a letter or a define as the code has it, and what the functions that read literals promise (docs/REFERENCE.md,
--- G8 to G14). Assumes nothing.
+-- G8 to G14 and G21). Assumes nothing.
 use mathlib.Core.Bool.{Bool, false, not, _&&_}
 use mathlib.Core.List.{List, [], _++_}
 use mathlib.Core.Path.{_≡_}
@@ -7,7 +7,7 @@ use Prim.Native.Nat.{ℕ, _+_, _*_, _<_, _≤_, min}
 use lib.Dec.{eqb}
 use lib.Bits.{bitOr}
 use lib.ListN.{length}
-use Rattle.lexer.specs.Tokens.{tokenAt}
+use Rattle.lexer.specs.Tokens.{tokenAt, ruleWords}
 use Rattle.meaning.specs.Expression.{Literal, wire-store, storeTests}
 use Rattle.meaning.specs.ShapeTests.{agree, AllSized}
 use Rattle.masks.specs.Masks.{look, want, compatible}
@@ -17,7 +17,7 @@ use Rattle.meaning.specs.Reading.{Context, inDefine, inLetter, literalMore, sig
 use Rattle.meaning.specs.Names.{Names, Program}
 use Rattle.rules.specs.declared.literals.Condition.{Condition}
 use Rattle.rules.specs.declared.literals.Literals.{Literals}
-use Rattle.rules.specs.Cells.{at, Link, LinkAt, Links, testsOn, Cells}
+use Rattle.rules.specs.Cells.{at, Link, LinkAt, Links, testsOn, heldAt, HeldIs, Cells}
 use Rattle.rules.specs.declared.tokens.Seen.{Seen}
 use Rattle.rules.specs.Seen.{seen}
 use Rattle.words.specs.Words.{part3}
@@ -60,6 +60,7 @@ pub record Joined (q : Condition) (l w : ℕ) (a : Bool) (r : Condition) : Type 
   pub agrees : r .agrees ≡ ((q .agrees && a) && compatible (q .look) (q .want) l w)
   pub tests : r .tests ≡ q .tests
   pub link : r .link ≡ q .link
+  pub held : r .held ≡ q .held
 
 -- the literals' store tests (N7): how many, up to three, and the links of two at most
 pub record TestsAre (P : List ℕ) (c tests link : ℕ) (ls : List Literal) : Type 0 where
@@ -70,6 +71,7 @@ pub record TestsAre (P : List ℕ) (c tests link : ℕ) (ls : List Literal) : Ty
 pub record ConditionIs (P : List ℕ) (c : ℕ) (q : Condition) (ls : List Literal) : Type 0 where
   pub masks : MasksAre q ls
   pub tests : TestsAre P c (q .tests) (q .link) ls
+  pub helds : HeldIs P c (q .held) ls
 
 -- the store tests that literals may have together: two in a letter; of a define's up to three are counted twice at most
 abbrev pub mostOf : Context → ℕ
@@ -109,7 +111,7 @@ pub record Adds (text : List ℕ) (from : From) (P : List ℕ) (pos c h : ℕ) (
 -- the same, and no `&` follows
 pub record AllAdded (text : List ℕ) (from : From) (P : List ℕ) (pos c h : ℕ) (q : Condition) (most : ℕ) (r : Literals) (Q : List ℕ) : Type 0 where
   pub adds : Adds text from P pos c h q most r Q
-  pub last : r .fault ≡ 0 → is 4 (tokenAt text (r .at)) ≡ false
+  pub last : r .fault ≡ 0 → is 4 (tokenAt ruleWords text (r .at)) ≡ false
 
 -- a link more, unless there are two already
 pub record Linked (P : List ℕ) (c tests link : ℕ) (x : Link) (free more new : ℕ) (Q : List ℕ) : Type 0 where
@@ -125,6 +127,14 @@ pub record LinkedBoth (P : List ℕ) (c tests link more other free all new : ℕ
   pub few : free ≤ c + 2
   pub shared : tests ≡ 0 → free ≡ c
   pub both : (ls ds : List Literal) → TestsAre P c tests link ls → TestsAre P c more other ds → TestsAre Q free all new (ls ++ ds)
+
+-- the wires that two masks hold
+pub record HeldBoth (P : List ℕ) (c one other free new : ℕ) (Q : List ℕ) : Type 0 where
+  pub extends : Extends P c Q free
+  pub few : free ≤ c + 1
+  pub shared : one ≡ 0 → free ≡ c
+  pub low : new < free
+  pub mask : heldAt Q new ≡ bitOr (heldAt P one) (heldAt P other)
 
 -- ---- where the functions begin that have a token already
 
@@ -153,6 +163,6 @@ byTest text t n w ns x ls = behind text t (unless (tooMany x ls 1) crowded (seen
 abbrev pub byName : List ℕ → Seen → From
 byName text t ns x ls = behind text t (literalName ns x ls (seen text t) (noExp (seen text t)))
 
--- The first literal's name pays for no link: three words a byte are left for what follows it.
-abbrev pub Frugal : (tests f free first c next : ℕ) → Type 0
-Frugal tests f free first c next = tests ≡ 0 → f ≡ 0 → free + 3 * first ≤ c + 3 * next
+-- The first literal's name pays for no word: three words a byte are left for what follows it.
+abbrev pub Frugal : (tests held f free first c next : ℕ) → Type 0
+Frugal tests held f free first c next = tests ≡ 0 → held ≡ 0 → f ≡ 0 → free + 3 * first ≤ c + 3 * next

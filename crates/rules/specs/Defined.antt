@@ -5,7 +5,7 @@ use mathlib.Core.List.{List}
 use mathlib.Core.Path.{_≡_}
 use Prim.Native.Nat.{ℕ, _+_, _<_, _≤_}
 use lib.ListN.{length, take, drop}
-use Rattle.lexer.specs.Tokens.{tokenAt}
+use Rattle.lexer.specs.Tokens.{tokenAt, ruleWords}
 use Rattle.meaning.specs.Answers.{refused, byte}
 use Rattle.meaning.specs.Reading.{Expect, sign, closing, go, newName, step}
 use Rattle.meaning.specs.Names.{Meaning, Names, Declaration}
@@ -21,7 +21,7 @@ use Rattle.rules.specs.Tasks.{Task}
 
 -- In the state x a new name is expected, and then the sign k.
 abbrev pub Begins : List ℕ → (pos k : ℕ) → Names → Expect → (List ℕ → Expect) → Type 0
-Begins text pos k ns x then = step ns x (tokenAt text pos) ≡ newName ns (tokenAt text pos) false false (λ s. go ns (sign k (then s)))
+Begins text pos k ns x then = step ns x (tokenAt ruleWords text pos) ≡ newName ns (tokenAt ruleWords text pos) false false (λ s. go ns (sign k (then s)))
 
 pub record BegunAt (text P : List ℕ) (scope : Scope) (pos k next place size : ℕ) : Type 0 where
   pub low : pos ≤ place

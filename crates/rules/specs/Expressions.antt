@@ -4,7 +4,7 @@ use mathlib.Core.List.{List, _∷_}
 use mathlib.Core.Path.{_≡_}
 use Prim.Native.Nat.{ℕ, _+_, _*_, _<_, _≤_}
 use lib.ListN.{length}
-use Rattle.lexer.specs.Tokens.{tokenAt}
+use Rattle.lexer.specs.Tokens.{tokenAt, ruleWords}
 use Rattle.meaning.specs.Expression.{Literal, Exp}
 use Rattle.meaning.specs.Answers.{Answer, refused, byte}
 use Rattle.meaning.specs.Reading.{Open, Level, newLevel, whole, Expect, operand, operandMore, literal, literalMore, inLetter, step, is, onLevel}
@@ -61,7 +61,7 @@ pub record LetterGiven (text P : List ℕ) (pos c h : ℕ) (q : Condition) : Typ
   pub names : (ns : Names) × Cells text P c h (ns .declared)
   pub condition : (ls : List Literal) × ConditionIs P c q ls
   pub few : q .tests ≤ 2
-  pub last : is 4 (tokenAt text pos) ≡ false
+  pub last : is 4 (tokenAt ruleWords text pos) ≡ false
 
 abbrev pub behindLiterals : List ℕ → ℕ → Names → Open → List Literal → Answer Program
 behindLiterals text pos ns o ls = readFrom text pos ns (literalMore (inLetter o) ls)
@@ -97,16 +97,16 @@ pub record Joined (P : List ℕ) (c : ℕ) (l : Depth) (p : Part) (nodes : ℕ) 
 
 -- no operator follows
 pub record Closes (text : List ℕ) (pos : ℕ) : Type 0 where
-  pub pipe : is 2 (tokenAt text pos) ≡ false
-  pub comma : is 1 (tokenAt text pos) ≡ false
-  pub bars : is 15 (tokenAt text pos) ≡ false
+  pub pipe : is 2 (tokenAt ruleWords text pos) ≡ false
+  pub comma : is 1 (tokenAt ruleWords text pos) ≡ false
+  pub bars : is 15 (tokenAt ruleWords text pos) ≡ false
 
 -- the level that a turn comes to
 pub record Goes (text P : List ℕ) (pos c : ℕ) (p : Part) (l : Depth) (r : Turn) (Q : List ℕ) : Type 0 where
   pub further : pos < r .parsed .at
   pub inside : r .parsed .at ≤ length text
   pub few : r .parsed .free + pending (r .level) + 3 * pos ≤ c + pending l + 3 * r .parsed .at
-  pub reads : (L : Level) → LevelIs P c l L → (e : Exp) → PartIs P c p e → (b : Bool) → (b ≡ false → is 3 (tokenAt text pos) ≡ false)
+  pub reads : (L : Level) → LevelIs P c l L → (e : Exp) → PartIs P c p e → (b : Bool) → (b ≡ false → is 3 (tokenAt ruleWords text pos) ≡ false)
       → (M : Level) × LevelIs Q (r .parsed .free) (r .level) M
       × ((ns : Names) → (o : Open) → readFrom text pos ns (operandMore (onLevel o L) e b) ≡ readFrom text (r .parsed .at) ns (operand (onLevel o M)))
 
@@ -115,14 +115,14 @@ pub record Ends (text P : List ℕ) (pos c : ℕ) (p : Part) (l : Depth) (r : Pa
   pub here : r .at ≡ pos
   pub few : r .free ≤ c + pending l
   pub closes : Closes text pos
-  pub reads : (L : Level) → LevelIs P c l L → (e : Exp) → PartIs P c p e → (b : Bool) → (b ≡ false → is 3 (tokenAt text pos) ≡ false)
+  pub reads : (L : Level) → LevelIs P c l L → (e : Exp) → PartIs P c p e → (b : Bool) → (b ≡ false → is 3 (tokenAt ruleWords text pos) ≡ false)
       → PartIs Q (r .free) (r .part) (whole L e)
       × ((ns : Names) → (o : Open) → readFrom text pos ns (operandMore (onLevel o L) e b) ≡ readFrom text pos ns (operandMore (onLevel o newLevel) (whole L e) true))
 
 -- the token is refused
 abbrev pub Stops : (text P : List ℕ) → (pos c : ℕ) → Part → Depth → (f place : ℕ) → Type 0
 Stops text P pos c p l f place =
-    (L : Level) → LevelIs P c l L → (e : Exp) → PartIs P c p e → (b : Bool) → (b ≡ false → is 3 (tokenAt text pos) ≡ false)
+    (L : Level) → LevelIs P c l L → (e : Exp) → PartIs P c p e → (b : Bool) → (b ≡ false → is 3 (tokenAt ruleWords text pos) ≡ false)
     → (ns : Names) → (o : Open) → readFrom text pos ns (operandMore (onLevel o L) e b) ≡ refused f (byte place)
 
 pub data TurnIs (text P : List ℕ) (pos c : ℕ) (p : Part) (l : Depth) (r : Turn) (Q : List ℕ) : Type 0 where
@@ -174,7 +174,7 @@ pub record Starred (text P : List ℕ) (pos c : ℕ) (p : Part) (r : Parsed) (Q 
   pub extends : Extends P c Q (r .free)
   pub spent : Spent text pos c (r .at) (r .free)
   pub reads : (e : Exp) → PartIs P c p e
-      → (f : Exp) × (starred : Bool) × PartIs Q (r .free) (r .part) f × (starred ≡ false → is 3 (tokenAt text (r .at)) ≡ false)
+      → (f : Exp) × (starred : Bool) × PartIs Q (r .free) (r .part) f × (starred ≡ false → is 3 (tokenAt ruleWords text (r .at)) ≡ false)
       × ((ns : Names) → (o : Open) → readFrom text pos ns (operandMore o e false) ≡ readFrom text (r .at) ns (operandMore o f starred))
 
 -- `)` closes a parenthesis, behind which the level around it goes on

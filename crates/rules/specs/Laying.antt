@@ -9,7 +9,7 @@ use lib.ListN.{length}
 use lib.Seq.{sets}
 use Rattle.meaning.specs.Lists.{each}
 use Rattle.meaning.specs.Expression.{Letter, Exp, letter, seq, alt, star, pipe, letters, size, rows}
-use Rattle.masks.specs.Masks.{look, want}
+use Rattle.masks.specs.Masks.{look, want, held}
 use Rattle.meaning.specs.Table.{Row, Kind, is-letter, is-seq, is-alt, is-star, is-pipe}
 use Rattle.words.specs.Words.{quad}
 use Rattle.rules.specs.Cells.{Link, testsOn, writesOn, LinkAt, Links, Denotes}
@@ -98,20 +98,22 @@ behind (x ∷ xs) = xs
 abbrev pub slotsOf : Letter → List (Option Link)
 slotsOf x = twoSlots (testsOn [] (x .literals)) ++ twoSlots (writesOn [] (x .writes))
 
--- the letters of a table as four lists
+-- the letters of a table as five lists
 pub record LetterLists : Type 0 where
   pub look : List ℕ
   pub want : List ℕ
+  pub held : List ℕ
   pub links : List ℕ
   pub numbers : List ℕ
 
-abbrev pub letterLists : (look want links numbers : List ℕ) → LetterLists
-letterLists a b c d = record { look = a; want = b; links = c; numbers = d }
+abbrev pub letterLists : (look want held links numbers : List ℕ) → LetterLists
+letterLists a b h c d = record { look = a; want = b; held = h; links = c; numbers = d }
 
 -- with letters stored from index l on, four slots a letter
 abbrev pub withLetters : LetterLists → (l : ℕ) → List Letter → LetterLists
 withLetters A l xs =
     letterLists (sets (A .look) l (map (λ x. look (x .literals)) xs)) (sets (A .want) l (map (λ x. want (x .literals)) xs))
+    (sets (A .held) l (map (λ x. held (x .literals)) xs))
     (sets (A .links) (4 * l) (each xs (λ x. map slotWord (slotsOf x)))) (sets (A .numbers) (4 * l) (each xs (λ x. map slotNumber (slotsOf x))))
 
 -- ---- what is laid

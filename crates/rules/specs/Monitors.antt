@@ -51,6 +51,7 @@ pub record Arrays (T : List ℕ) (L : LetterLists) : Type 0 where
   pub table : length T ≡ 1024
   pub looks : length (L .look) ≡ 256
   pub wants : length (L .want) ≡ 256
+  pub helds : length (L .held) ≡ 256
   pub links : length (L .links) ≡ 1024
   pub numbers : length (L .numbers) ≡ 1024
 

@@ -28,9 +28,12 @@ pub record Only (kind : ℕ) (t : Placed) (i s : ℕ → ℕ → Step) (d : List
   pub defines : (kind ≡ 2 → ⊥) → d ≡ noLiterals t
   pub productions : (kind ≡ 3 → ⊥) → p ≡ noExp t
 
--- a token's bytes
+-- the bytes from a place up to another, and a token's
+abbrev pub spelt : List ℕ → (place after : ℕ) → List ℕ
+spelt text place after = take (after - place) (drop place text)
+
 abbrev pub bytesOf : List ℕ → Seen → List ℕ
-bytesOf text t = take (t .after - t .place) (drop (t .place) text)
+bytesOf text t = spelt text (t .place) (t .after)
 
 -- the token is a name of the kind
 pub record Picked (text P : List ℕ) (c : ℕ) (ns : Names) (t : Seen) (kind cell : ℕ) : Type 0 where

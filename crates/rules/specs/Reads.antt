@@ -6,7 +6,7 @@ use mathlib.Core.Logic.{_⊎_}
 use Prim.Native.Nat.{ℕ, _<_, _≤_}
 use lib.ListN.{length}
 use Rattle.lexer.specs.Tokens as token
-use Rattle.lexer.specs.Tokens.{Token, Placed, tokenAt, tokensAt}
+use Rattle.lexer.specs.Tokens.{Token, Placed, tokenAt, tokensAt, ruleWords}
 use Rattle.refusals.specs.Numbers.{oversize}
 use Rattle.meaning.specs.Answers.{Answer, refused, byte}
 use Rattle.meaning.specs.Reading.{Expect, Step, fault, onNumber, ifNumber, readOn}
@@ -14,7 +14,7 @@ use Rattle.meaning.specs.Names.{Names, Program}
 
 -- reading a text from a position on
 unfoldable pub readFrom : List ℕ → ℕ → Names → Expect → Answer Program
-readFrom text at ns x = readOn ns x (tokensAt text at)
+readFrom text at ns x = readOn ns x (tokensAt ruleWords text at)
 
 -- the first where the answer is no fault, else the second
 pub data Unless (f : ℕ) (A B : Type 0) : Type 0 where
@@ -43,6 +43,6 @@ NoNumber t f = (next : ℕ → Step) → (onNumber t next ≡ fault f (t .place)
 unfoldable pub NumberRead : List ℕ → (at most f next place value : ℕ) → Type 0
 NumberRead text at most f next place v =
     Unless f
-    (Past text at next × (tokenAt text at ≡ placed (token.number v) place next) × (v ≤ most))
-    ((tokenAt text at .place ≡ next)
-    × (NoNumber (tokenAt text at) f ⊎ ((n : ℕ) × (a : ℕ) × (tokenAt text at ≡ placed (token.number n) next a) × (most < n) × (f ≡ oversize))))
+    (Past text at next × (tokenAt ruleWords text at ≡ placed (token.number v) place next) × (v ≤ most))
+    ((tokenAt ruleWords text at .place ≡ next)
+    × (NoNumber (tokenAt ruleWords text at) f ⊎ ((n : ℕ) × (a : ℕ) × (tokenAt ruleWords text at ≡ placed (token.number n) next a) × (most < n) × (f ≡ oversize))))

@@ -9,7 +9,7 @@ use lib.ListN.{length, take, drop}
 use Rattle.lexer.specs.Bytes.{lookup}
 use Rattle.lexer.specs.Signs.{leftBracket}
 use Rattle.lexer.specs.Tokens as token
-use Rattle.lexer.specs.Tokens.{Placed, tokenAt}
+use Rattle.lexer.specs.Tokens.{Placed, tokenAt, ruleWords}
 use Rattle.meaning.specs.Answers.{refused, byte}
 use Rattle.refusals.specs.Numbers.{oversize}
 use Rattle.meaning.specs.Reading.{Expect, statement, toZero, Step, go, fault, is, choose, unless, notHere, newName, onNumber, step}
@@ -65,20 +65,20 @@ pub record NewAt (text P : List ℕ) (scope : Scope) (pos : ℕ) (noWire full : 
   pub low : pos ≤ place
   pub some : place < after
   pub inside : after ≤ length text
-  pub token : tokenAt text pos ≡ placed (token.name (take (after - place) (drop place text))) place after
+  pub token : tokenAt ruleWords text pos ≡ placed (token.name (take (after - place) (drop place text))) place after
   pub wire : noWire ≡ false
   pub room : full ≡ false
   pub few : scope .count < 128
   pub leads : (c : ℕ) → (ns : Names) → Cells text P c (scope .last) (ns .declared) → scope .count ≡ length (ns .declared)
       → (lookup (take (after - place) (drop place text)) (ns .declared) ≡ none)
-      × ((next : List ℕ → Step) → newName ns (tokenAt text pos) noWire full next ≡ next (take (after - place) (drop place text)))
+      × ((next : List ℕ → Step) → newName ns (tokenAt ruleWords text pos) noWire full next ≡ next (take (after - place) (drop place text)))
 
 unfoldable pub NameRead : (text P : List ℕ) → Scope → (pos : ℕ) → (noWire full : Bool) → (f place after : ℕ) → Type 0
 NameRead text P scope pos noWire full f place after =
     Unless f
     (NewAt text P scope pos noWire full place after)
     ((c : ℕ) → (ns : Names) → Cells text P c (scope .last) (ns .declared) → scope .count ≡ length (ns .declared)
-    → (next : List ℕ → Step) → newName ns (tokenAt text pos) noWire full next ≡ fault f place)
+    → (next : List ℕ → Step) → newName ns (tokenAt ruleWords text pos) noWire full next ≡ fault f place)
 
 -- the words of a name: its kind, the cell before it, its place and length, and two numbers
 pub record NameWritten (P : List ℕ) (c kind last place size a b : ℕ) (Q : List ℕ) : Type 0 where

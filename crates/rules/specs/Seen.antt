@@ -6,7 +6,7 @@ use mathlib.Core.Path.{_≡_}
 use lib.Dec.{eqb, ltb}
 use lib.ListN.{take, drop}
 use Rattle.lexer.specs.Tokens as token
-use Rattle.lexer.specs.Tokens.{Token, Placed, tokenAt}
+use Rattle.lexer.specs.Tokens.{Token, Placed, tokenAt, ruleWords}
 use Rattle.rules.specs.declared.tokens.Seen.{Seen}
 
 abbrev pub wordKind : token.Word → ℕ
@@ -14,6 +14,7 @@ wordKind token.input = 20
 wordKind token.internal = 21
 wordKind token.define = 22
 wordKind token.monitor = 23
+wordKind token.past = 24
 
 -- the kind of a token, and the value that it has if it is a number
 abbrev pub kindOf : Token → ℕ
@@ -21,8 +22,8 @@ kindOf (token.name s) = 18
 kindOf (token.word w) = wordKind w
 kindOf (token.number n) = 19
 kindOf (token.sign n) = n
-kindOf token.end = 24
-kindOf (token.refused n) = 25
+kindOf token.end = 25
+kindOf (token.refused n) = 26
 
 abbrev pub valueOf : Token → ℕ
 valueOf (token.name s) = 0
@@ -42,11 +43,12 @@ tokenOf k s v =
     (cond (eqb k 21) (token.word token.internal)
     (cond (eqb k 22) (token.word token.define)
     (cond (eqb k 23) (token.word token.monitor)
-    (cond (eqb k 24) token.end (token.refused 2))))))))
+    (cond (eqb k 24) (token.word token.past)
+    (cond (eqb k 25) token.end (token.refused 2)))))))))
 
 -- X4: the number of the refusal of a token of this kind that is not allowed where it stands
 abbrev pub faultOf : ℕ → ℕ
-faultOf k = cond (ltb k 25) 3 2
+faultOf k = cond (ltb k 26) 3 2
 
 unfoldable pub seen : List ℕ → Seen → Placed
 seen s t =
@@ -54,5 +56,5 @@ seen s t =
 
 -- it is the token at a position
 pub record Sees (text : List ℕ) (at : ℕ) (t : Seen) : Type 0 where
-  pub token : seen text t ≡ tokenAt text at
+  pub token : seen text t ≡ tokenAt ruleWords text at
   pub fault : t .fault ≡ faultOf (t .kind)

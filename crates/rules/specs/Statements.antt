@@ -4,7 +4,7 @@ use mathlib.Core.List.{List, []}
 use mathlib.Core.Path.{_≡_}
 use Prim.Native.Nat.{ℕ, _≤_}
 use lib.ListN.{length, take}
-use Rattle.lexer.specs.Tokens.{tokens}
+use Rattle.lexer.specs.Tokens.{tokens, ruleWords}
 use Rattle.meaning.specs.Expression.{Exp}
 use Rattle.meaning.specs.Answers.{Answer, value, refused, byte}
 use Rattle.meaning.specs.Reading.{Expect, statement, monitorName, monitorMore, textEnd, readOn}
@@ -69,7 +69,7 @@ pub record Stated (text P S : List ℕ) (r : Declared) (Q T : List ℕ) : Type 0
 -- what a text says, as the code has it
 pub record Says (text : List ℕ) (free wires stores count : ℕ) (Q T M : List ℕ) : Type 0 where
   pub program : Program
-  pub reads : readOn noNames statement (tokens text) ≡ value program
+  pub reads : readOn noNames statement (tokens ruleWords text) ≡ value program
   pub monitors : MonitorsAre Q free M count (program .monitors)
   pub width : wires ≡ program .wires
   pub number : stores ≡ length (program .initial)
@@ -79,4 +79,4 @@ pub record Says (text : List ℕ) (free wires stores count : ℕ) (Q T M : List 
 
 unfoldable pub TextRead : (text : List ℕ) → (f at free wires stores count : ℕ) → (Q T M : List ℕ) → Type 0
 TextRead text f at free wires stores count Q T M =
-    Unless f (Says text free wires stores count Q T M) (readOn noNames statement (tokens text) ≡ refused f (byte at))
+    Unless f (Says text free wires stores count Q T M) (readOn noNames statement (tokens ruleWords text) ≡ refused f (byte at))

@@ -17,20 +17,21 @@ use Rattle.rules.specs.declared.Outcome.the-variants.{Open, AtByte, AtLe
 -- no rows, no letters, no monitors
 abbrev pub noLists : Lists
 noLists =
-    lists (replicate 1024 0) (letterLists (replicate 256 0) (replicate 256 0) (replicate 1024 0) (replicate 1024 0)) (replicate 32 0) (replicate 32 0)
+    lists (replicate 1024 0) (letterLists (replicate 256 0) (replicate 256 0) (replicate 256 0) (replicate 1024 0) (replicate 1024 0)) (replicate 32 0) (replicate 32 0)
 
 -- the rows of letters, those of kind 0, among rows of these kinds from row r on
 unfoldable pub lettersFrom : (r : ℕ) → (kinds : List ℕ) → List ℕ
 lettersFrom r [] = []
 lettersFrom r (k ∷ ks) = cond (eqb k 0) (r ∷ lettersFrom (suc r) ks) (lettersFrom (suc r) ks)
 
--- a watch of these arrays; W1: "tick count 0, the first values in its stores and each monitor at its start, and is not stopped"
+-- a watch of these arrays; W1: "tick count 0, the first values in its stores, 0 as the word before and each monitor at its start, and is not stopped"
 abbrev pub watchBy : Lists → (rows letters monitors wires : ℕ) → (initial : List ℕ) → Watch
 watchBy A r l m w vs =
     record {
       table = A .table;
       look = A .letters-of .look;
       want = A .letters-of .want;
+      held = A .letters-of .held;
       links = A .letters-of .links;
       numbers = A .letters-of .numbers;
       places = sets (replicate 256 0) 0 (lettersFrom 0 (kinds (take r (A .table))));
@@ -41,6 +42,7 @@ watchBy A r l m w vs =
       monitors = m;
       wires = w;
       stores = length vs;
+      before = 0;
       values = sets (replicate 16 0) 0 vs;
       marks = sets (replicate 288 0) 256 (replicate m 1);
       ticks = 0;

@@ -21,7 +21,7 @@ ghost use mathlib.Core.List.{List, []};
 ghost use Prim.Native.Nat.{ℕ, _+_, _<_, _≤_};
 ghost use lib.ListN.{length};
 ghost use Rattle.lexer.specs.Tokens as token;
-ghost use Rattle.lexer.specs.Tokens.{tokenAt};
+ghost use Rattle.lexer.specs.Tokens.{ruleWords, tokenAt};
 ghost use Rattle.meaning.specs.Expression.{Literal, Exp};
 ghost use Rattle.meaning.specs.Reading.{defineName, statement, inDefine, literal};
 ghost use Rattle.meaning.specs.Names.{aDefine, aProduction, newDefine};
@@ -87,7 +87,7 @@ fn write_define(
     ensures { λ r. ⌜ CellWritten (now (words .entry)) free 4 last place size (List Literal) (ConditionIs (now (words .entry)) free q) aDefine (now (words .exit)) ⌝ }
 {
     words[free] = quad(DEFINED, last, place, size);
-    words[free + 1] = quad(flagged(q.agrees), q.tests, q.link, 0);
+    words[free + 1] = quad(flagged(q.agrees), q.tests, q.link, q.held);
     words[free + 2] = q.look;
     words[free + 3] = q.want;
 }
@@ -188,7 +188,7 @@ pub(crate) fn production(
     free: usize,
     at: usize,
 ) -> Declared
-    requires { ⌜ ((S : List ℕ) × Ready (now text) (now words) S at free scope) × ((s : List ℕ) × (place : ℕ) × (after : ℕ) × (tokenAt (now text) at ≡ placed (token.name s) place after)) ⌝ }
+    requires { ⌜ ((S : List ℕ) × Ready (now text) (now words) S at free scope) × ((s : List ℕ) × (place : ℕ) × (after : ℕ) × (tokenAt ruleWords (now text) at ≡ placed (token.name s) place after)) ⌝ }
     ensures { λ r. ⌜ ((S : List ℕ) → Declares (now (text .entry)) statement (now (words .entry)) S at free scope r (now (words .exit)) S) ⌝ }
 {
     let name = begun(text, words, scope, at, RIGHT_ARROW);

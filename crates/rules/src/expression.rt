@@ -66,7 +66,7 @@ fn nothing() -> Part
 
 // A letter whose literals are read, with the writes whose last link is `link`.
 fn put_letter(words: &mut [u64], free: usize, at: usize, q: Condition, link: usize) -> Parsed
-    requires { ⌜ (free + 3 ≤ length (now words)) × (length (now words) ≤ 65535) × (1 ≤ free) × (q .link < free) × (link < free) ⌝ }
+    requires { ⌜ (free + 3 ≤ length (now words)) × (length (now words) ≤ 65535) × (1 ≤ free) × (q .link < free) × (link < free) × (q .held < free) ⌝ }
     ensures { λ r. ⌜ (r .fault ≡ 0) × (r .at ≡ at) × LetterMade (now (words .entry)) free q link (now (words .exit)) (r .free) (r .part) ⌝ }
 {
     let m = letter_part(words, free, q, link);
@@ -136,7 +136,7 @@ fn letter_rest(
 
 // A condition of no literals.
 pub(crate) fn no_literals() -> Condition
-    ensures { λ r. ⌜ ((P : List ℕ) → (c : ℕ) → 1 ≤ c → ConditionIs P c r []) × (r .tests ≡ 0) ⌝ }
+    ensures { λ r. ⌜ ((P : List ℕ) → (c : ℕ) → 1 ≤ c → ConditionIs P c r []) × (r .tests ≡ 0) × (r .held ≡ 0) ⌝ }
 {
     Condition {
         look: 0,
@@ -144,6 +144,7 @@ pub(crate) fn no_literals() -> Condition
         agrees: true,
         tests: 0,
         link: 0,
+        held: 0,
     }
 }
 

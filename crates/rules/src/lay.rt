@@ -1,5 +1,6 @@
 // Laying the rows and letters of an expression: from the words that a text is read into to the lists of numbers that a
 // watch's table has (specs/Laying.antt).
+use super::literals::held_at;
 use words::part0;
 use words::part1;
 use words::part2;
@@ -133,17 +134,19 @@ fn put_letter(
     letter: usize,
     look: &mut [u64; 256],
     want: &mut [u64; 256],
+    held: &mut [u64; 256],
     links: &mut [u64; 1024],
     numbers: &mut [u64; 1024],
 )
     requires { ⌜ (letter < 256) × SomeLetter (now words) node ⌝ }
     ensures { λ _. ⌜ ((c : ℕ) → (x : Letter) → LetterAt (now (words .entry)) c node x
-        → letterLists (now (look .exit)) (now (want .exit)) (now (links .exit)) (now (numbers .exit))
-        ≡ withLetters (letterLists (now (look .entry)) (now (want .entry)) (now (links .entry)) (now (numbers .entry))) letter (x ∷ [])) ⌝ }
+        → letterLists (now (look .exit)) (now (want .exit)) (now (held .exit)) (now (links .exit)) (now (numbers .exit))
+        ≡ withLetters (letterLists (now (look .entry)) (now (want .entry)) (now (held .entry)) (now (links .entry)) (now (numbers .entry))) letter (x ∷ [])) ⌝ }
 {
     look[letter] = words[node + 1];
     want[letter] = words[node + 2];
     let head = words[node];
+    held[letter] = held_at(words, part3(head));
     put_links(words, part1(head), 4 * letter, links, numbers);
     put_links(words, part2(head), 4 * letter + 2, links, numbers);
 }
@@ -172,6 +175,7 @@ pub(crate) fn lay(
     table: &mut [u64; 1024],
     look: &mut [u64; 256],
     want: &mut [u64; 256],
+    held: &mut [u64; 256],
     links: &mut [u64; 1024],
     numbers: &mut [u64; 1024],
 ) -> Laid
@@ -179,13 +183,13 @@ pub(crate) fn lay(
     ensures { λ r. ⌜ ((c : ℕ) → (e : Exp) → ExpAt (now (words .entry)) c node row letter e
         → Stored row above letter e
         (now (table .entry)) (now (table .exit))
-        (letterLists (now (look .entry)) (now (want .entry)) (now (links .entry)) (now (numbers .entry))) (letterLists (now (look .exit)) (now (want .exit)) (now (links .exit)) (now (numbers .exit)))
+        (letterLists (now (look .entry)) (now (want .entry)) (now (held .entry)) (now (links .entry)) (now (numbers .entry))) (letterLists (now (look .exit)) (now (want .exit)) (now (held .exit)) (now (links .exit)) (now (numbers .exit)))
         (r .row) (r .letter)) ⌝ }
 {
     let head = words[node];
     let k = part0(head);
     if k == LETTER {
-        put_letter(words, node, letter, look, want, links, numbers);
+        put_letter(words, node, letter, look, want, held, links, numbers);
         put_row(row, LETTER, letter, 0, above, table);
         return Laid {
             row: row + 1,
@@ -201,6 +205,7 @@ pub(crate) fn lay(
         table,
         look,
         want,
+        held,
         links,
         numbers,
     );
@@ -219,6 +224,7 @@ pub(crate) fn lay(
         table,
         look,
         want,
+        held,
         links,
         numbers,
     );

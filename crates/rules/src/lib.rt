@@ -26,8 +26,9 @@ ghost use Rattle.shape.specs.Walk.{kinds};
 ghost use Rattle.rules.specs.Watches.{noLists, lettersFrom, watchBy, watchOf, shownOutcome};
 
 // A watch. Each row in one word, and letters, as `lay` has them (specs/Laying.antt); each letter's row; each
-// monitor's own row and first letter; how many rows, letters, monitors, wires and stores there are; the store values; a mark
-// for each active letter and, from 256 on, for each monitor at its start; how many ticks were ok, and whether one was bad.
+// monitor's own row and first letter; how many rows, letters, monitors, wires and stores there are; the word
+// of the last ok tick, 0 at first; the store values; a mark for each active letter and, from 256 on, for each monitor at its
+// start; how many ticks were ok, and whether one was bad.
 // Between large arrays stands a number: the compiler then copies each array to its place, without a whole watch on the way.
 pub struct Watch {
     pub table: [u64; 1024],
@@ -36,6 +37,8 @@ pub struct Watch {
     pub letters: usize,
     pub want: [u64; 256],
     pub monitors: usize,
+    pub held: [u64; 256],
+    pub before: u64,
     pub links: [u64; 1024],
     pub wires: usize,
     pub numbers: [u64; 1024],
@@ -69,6 +72,8 @@ fn no_watch() -> Watch
         table: [0; 1024],
         look: [0; 256],
         want: [0; 256],
+        held: [0; 256],
+        before: 0,
         links: [0; 1024],
         numbers: [0; 1024],
         places: [0; 256],
@@ -166,6 +171,7 @@ fn open_in(text: &[u8], words: &mut [u64]) -> Start
     let mut table = [0u64; 1024];
     let mut look = [0u64; 256];
     let mut want = [0u64; 256];
+    let mut held = [0u64; 256];
     let mut links = [0u64; 1024];
     let mut numbers = [0u64; 1024];
     let mut own = [0u16; 32];
@@ -177,6 +183,7 @@ fn open_in(text: &[u8], words: &mut [u64]) -> Start
         &mut table,
         &mut look,
         &mut want,
+        &mut held,
         &mut links,
         &mut numbers,
         &mut own,
@@ -192,6 +199,7 @@ fn open_in(text: &[u8], words: &mut [u64]) -> Start
         table,
         look,
         want,
+        held,
         links,
         numbers,
         places,
@@ -202,6 +210,7 @@ fn open_in(text: &[u8], words: &mut [u64]) -> Start
         monitors: r.count,
         wires: r.wires,
         stores: r.stores,
+        before: 0,
         values: kept,
         marks,
         ticks: 0,

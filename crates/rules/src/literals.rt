@@ -6,6 +6,7 @@ use super::names::find;
 use super::names::find_kind;
 use super::tokens::NAME;
 use super::tokens::NUMBER;
+use super::tokens::PAST;
 use super::tokens::Seen;
 use super::tokens::number_to;
 use super::tokens::see;
@@ -14,34 +15,42 @@ use lexer::AMPERSAND;
 use lexer::BANG;
 use lexer::DOUBLE_EQUALS;
 use lexer::LEFT_BRACKET;
+use lexer::LEFT_PAREN;
 use lexer::RIGHT_BRACKET;
+use lexer::RIGHT_PAREN;
+use lexer::equal;
 use masks::compatible;
 use words::part0;
 use words::part1;
 use words::part2;
+use words::part3;
 use words::quad;
 ghost use mathlib.Core.Path.{_≡_};
 ghost use mathlib.Core.Bool.{true, _&&_};
 ghost use mathlib.Core.List.{List};
 ghost use Prim.Native.Nat.{ℕ, _+_, _-_, _*_, _^_, _<_, _≤_};
+ghost use lib.Dec.{eqb};
 ghost use lib.ListN.{length};
+ghost use Rattle.lexer.specs.Bytes.{same};
 ghost use Rattle.meaning.specs.Expression.{Literal};
 ghost use Rattle.masks.specs.Masks.{compatible};
-ghost use Rattle.rules.specs.Cells.{link, StoreAt, DefineAt, Finds};
-ghost use Rattle.rules.specs.Conditions.{TestsAre, Joined, Linked, LinkedBoth, Given, Adds, AllAdded, byStore, byDefine, byTest, byName, Frugal};
-ghost use Rattle.rules.specs.Picks.{bytesOf};
-ghost use Rattle.meaning.specs.Reading.{sign, bitIndex, storeEquals, wireEquals, wireMore, negated, literal, literalMore};
+ghost use Rattle.rules.specs.Cells.{link, heldAt, StoreAt, DefineAt, Finds};
+ghost use Rattle.rules.specs.Conditions.{TestsAre, Joined, Linked, LinkedBoth, HeldBoth, Given, Adds, AllAdded, byStore, byDefine, byTest, byName, Frugal};
+ghost use Rattle.rules.specs.Picks.{spelt, bytesOf};
+ghost use Rattle.meaning.specs.Reading.{sign, bitIndex, storeEquals, wireEquals, pastName, wireMore, negated, literal, literalMore};
 ghost use Rattle.rules.specs.Seen.{Sees};
 ghost use Rattle.rules.specs.Reads.{readFrom};
 
 // The wires looked at and the values wanted there; whether no wire is wanted both ways; how many store tests there are,
-// three standing for any more; and the last of their links, where there are at most two.
+// three standing for any more; the last of their links, where there are at most two; and the index of the word that has
+// the wires to be as before (0: none).
 pub(crate) struct Condition {
     pub(crate) look: u64,
     pub(crate) want: u64,
     pub(crate) agrees: bool,
     pub(crate) tests: usize,
     pub(crate) link: usize,
+    pub(crate) held: usize,
 }
 
 // A condition with its words, and where to read on; or a refusal.
@@ -94,6 +103,7 @@ fn both(q: Condition, look: u64, want: u64, agrees: bool) -> Condition
         agrees: agree_too(q, look, want, agrees),
         tests: q.tests,
         link: q.link,
+        held: q.held,
     }
 }
 
@@ -193,6 +203,41 @@ fn with_links(
     )
 }
 
+// The wires to be as before that the word at an index has; none where the index is 0.
+pub(crate) fn held_at(words: &[u64], held: usize) -> u64
+    requires { ⌜ held < length (now words) ⌝ }
+    ensures { λ r. ⌜ r ≡ heldAt (now (words .entry)) held ⌝ }
+{
+    if held == 0 {
+        return 0;
+    }
+    words[held]
+}
+
+// The index of a word with wires to be as before, and where the words go on.
+struct Held {
+    free: usize,
+    held: usize,
+}
+
+// The wires that a condition holds, and those that a define does: a word is written only where both hold some.
+fn join_held(words: &mut [u64], free: usize, one: usize, other: usize) -> Held
+    requires { ⌜ (free + 1 ≤ length (now words)) × (one < free) × (other < free) ⌝ }
+    ensures { λ r. ⌜ HeldBoth (now (words .entry)) free one other (r .free) (r .held) (now (words .exit)) ⌝ }
+{
+    if other == 0 {
+        return Held { free, held: one };
+    }
+    if one == 0 {
+        return Held { free, held: other };
+    }
+    words[free] = words[one] | words[other];
+    Held {
+        free: free + 1,
+        held: free,
+    }
+}
+
 // `i]` behind `N[`: the wire that is bit i of those from `lo` on.
 fn bit_literal(
     text: &[u8],
@@ -275,6 +320,7 @@ fn store_literal(
             agrees: q.agrees,
             tests: t.tests,
             link: t.link,
+            held: q.held,
         },
     }
 }
@@ -332,11 +378,84 @@ fn wire_store(
             agrees: q.agrees,
             tests: l.tests,
             link: l.link,
+            held: q.held,
         },
     }
 }
 
-// What wires are compared with, behind `wire ==`.
+// Whether the token is the name whose bytes are those from `place` up to `after`.
+fn is_name(text: &[u8], t: Seen, place: usize, after: usize) -> bool
+    requires { ⌜ ((pos : ℕ) × Sees (now text) pos t) × (place ≤ after) × (after ≤ length (now text)) ⌝ }
+    ensures { λ r. ⌜ r ≡ (eqb (t .kind) 18 && same (bytesOf (now (text .entry)) t) (spelt (now (text .entry)) place after)) ⌝ }
+{
+    if t.kind != NAME {
+        return false;
+    }
+    let from = t.place;
+    let to = t.after;
+    equal(&text[from..to], &text[place..after])
+}
+
+// `(wire)` behind `wire == past`, the name of the wire standing from `place` up to `after`.
+fn past_literal(
+    text: &[u8],
+    words: &mut [u64],
+    last: usize,
+    free: usize,
+    at: usize,
+    q: Condition,
+    lo: usize,
+    width: usize,
+    place: usize,
+    after: usize,
+) -> Literals
+    requires { ⌜ Given (now text) (now words) at free last q × (1 ≤ width) × (lo + width ≤ 64) × (place ≤ after) × (after ≤ length (now text)) ⌝ }
+    ensures { λ r. ⌜ ((most : ℕ) → Adds (now (text .entry)) (λ ns x ls. readFrom (now (text .entry)) at ns (sign 6 (pastName x ls (spelt (now (text .entry)) place after) lo width))) (now (words .entry)) at free last q most r (now (words .exit))) ⌝ }
+{
+    let open = sign(text, at, LEFT_PAREN);
+    if open.fault != 0 {
+        return Literals {
+            fault: open.fault,
+            at: open.at,
+            free,
+            condition: q,
+        };
+    }
+    let t = see(text, open.at);
+    if !is_name(text, t, place, after) {
+        return Literals {
+            fault: t.fault,
+            at: t.place,
+            free,
+            condition: q,
+        };
+    }
+    let close = sign(text, t.after, RIGHT_PAREN);
+    if close.fault != 0 {
+        return Literals {
+            fault: close.fault,
+            at: close.at,
+            free,
+            condition: q,
+        };
+    }
+    words[free] = held_at(words, q.held) | moved(largest(width), width, lo);
+    Literals {
+        fault: 0,
+        at: close.at,
+        free: free + 1,
+        condition: Condition {
+            look: q.look,
+            want: q.want,
+            agrees: q.agrees,
+            tests: q.tests,
+            link: q.link,
+            held: free,
+        },
+    }
+}
+
+// What wires are compared with, behind `wire ==`; the wire's name stands from `place` up to `after`.
 fn wire_equals(
     text: &[u8],
     words: &mut [u64],
@@ -347,11 +466,16 @@ fn wire_equals(
     most: usize,
     lo: usize,
     width: usize,
+    place: usize,
+    after: usize,
 ) -> Literals
-    requires { ⌜ Given (now text) (now words) at free last q × (1 ≤ width) × (lo + width ≤ 64) ⌝ }
-    ensures { λ r. ⌜ Adds (now (text .entry)) (λ ns x ls. readFrom (now (text .entry)) at ns (wireEquals x ls lo width)) (now (words .entry)) at free last q most r (now (words .exit)) ⌝ }
+    requires { ⌜ Given (now text) (now words) at free last q × (1 ≤ width) × (lo + width ≤ 64) × (place ≤ after) × (after ≤ length (now text)) ⌝ }
+    ensures { λ r. ⌜ Adds (now (text .entry)) (λ ns x ls. readFrom (now (text .entry)) at ns (wireEquals x ls (spelt (now (text .entry)) place after) lo width)) (now (words .entry)) at free last q most r (now (words .exit)) ⌝ }
 {
     let t = see(text, at);
+    if t.kind == PAST {
+        return past_literal(text, words, last, free, t.after, q, lo, width, place, after);
+    }
     if t.kind != NUMBER {
         return wire_store(text, words, last, free, q, most, lo, width, t);
     }
@@ -371,7 +495,7 @@ fn wire_equals(
     }
 }
 
-// Behind the name of wires that stands at `place`; `value` is what a wire by itself is to have.
+// Behind the name of wires that stands from `place` up to `at`; `value` is what a wire by itself is to have.
 fn wire_more(
     text: &[u8],
     words: &mut [u64],
@@ -385,8 +509,8 @@ fn wire_more(
     value: u64,
     place: usize,
 ) -> Literals
-    requires { ⌜ Given (now text) (now words) at free last q × (1 ≤ width) × (lo + width ≤ 64) × (value < 2) ⌝ }
-    ensures { λ r. ⌜ Adds (now (text .entry)) (λ ns x ls. readFrom (now (text .entry)) at ns (wireMore x ls lo width value place)) (now (words .entry)) at free last q most r (now (words .exit)) ⌝ }
+    requires { ⌜ Given (now text) (now words) at free last q × (1 ≤ width) × (lo + width ≤ 64) × (value < 2) × (place ≤ at) ⌝ }
+    ensures { λ r. ⌜ Adds (now (text .entry)) (λ ns x ls. readFrom (now (text .entry)) at ns (wireMore x ls (spelt (now (text .entry)) place at) lo width value place)) (now (words .entry)) at free last q most r (now (words .exit)) ⌝ }
 {
     let t = see(text, at);
     if t.kind == LEFT_BRACKET {
@@ -394,7 +518,19 @@ fn wire_more(
     }
     if t.kind == DOUBLE_EQUALS {
         if value == 1 {
-            return wire_equals(text, words, last, free, t.after, q, most, lo, width);
+            return wire_equals(
+                text,
+                words,
+                last,
+                free,
+                t.after,
+                q,
+                most,
+                lo,
+                width,
+                place,
+                at,
+            );
         }
         return Literals {
             fault: t.fault,
@@ -471,7 +607,7 @@ fn define_literal(
     t: Seen,
 ) -> Literals
     requires { ⌜ Given (now text) (now words) (t .place) free last q × ((ds : List Literal) × DefineAt (now words) free cell ds) × ((pos : ℕ) × Sees (now text) pos t) × (t .kind ≡ 18) ⌝ }
-    ensures { λ r. ⌜ ((ds : List Literal) → DefineAt (now (words .entry)) free cell ds → Adds (now (text .entry)) (byDefine (now (text .entry)) t ds) (now (words .entry)) (t .place) free last q most r (now (words .exit))) × Frugal (q .tests) (r .fault) (r .free) (t .after) free (r .at) ⌝ }
+    ensures { λ r. ⌜ ((ds : List Literal) → DefineAt (now (words .entry)) free cell ds → Adds (now (text .entry)) (byDefine (now (text .entry)) t ds) (now (words .entry)) (t .place) free last q most r (now (words .exit))) × Frugal (q .tests) (q .held) (r .fault) (r .free) (t .after) free (r .at) ⌝ }
 {
     let what = words[cell + 1];
     let tests = part1(what);
@@ -485,16 +621,18 @@ fn define_literal(
     }
     let joined = both(q, words[cell + 2], words[cell + 3], part0(what) == 1);
     let l = with_links(words, free, q.tests, q.link, tests, part2(what));
+    let h = join_held(words, l.free, q.held, part3(what));
     Literals {
         fault: 0,
         at: t.after,
-        free: l.free,
+        free: h.free,
         condition: Condition {
             look: joined.look,
             want: joined.want,
             agrees: joined.agrees,
             tests: l.tests,
             link: l.link,
+            held: h.held,
         },
     }
 }
@@ -511,7 +649,7 @@ fn store_name(
     t: Seen,
 ) -> Literals
     requires { ⌜ Given (now text) (now words) (t .place) free last q × ((n : ℕ) × (w : ℕ) × StoreAt (now words) free cell n w) × ((pos : ℕ) × Sees (now text) pos t) × (t .kind ≡ 18) ⌝ }
-    ensures { λ r. ⌜ ((n w : ℕ) → StoreAt (now (words .entry)) free cell n w → Adds (now (text .entry)) (byTest (now (text .entry)) t n w) (now (words .entry)) (t .place) free last q most r (now (words .exit))) × Frugal (q .tests) (r .fault) (r .free) (t .after) free (r .at) ⌝ }
+    ensures { λ r. ⌜ ((n w : ℕ) → StoreAt (now (words .entry)) free cell n w → Adds (now (text .entry)) (byTest (now (text .entry)) t n w) (now (words .entry)) (t .place) free last q most r (now (words .exit))) × Frugal (q .tests) (q .held) (r .fault) (r .free) (t .after) free (r .at) ⌝ }
 {
     if most < q.tests + 1 {
         return Literals {
@@ -546,7 +684,7 @@ pub(crate) fn literal_name(
     t: Seen,
 ) -> Literals
     requires { ⌜ Given (now text) (now words) (t .place) free last q × ((pos : ℕ) × Sees (now text) pos t) × (t .kind ≡ 18) × Finds (now text) (now words) last (bytesOf (now text) t) cell ⌝ }
-    ensures { λ r. ⌜ Adds (now (text .entry)) (byName (now (text .entry)) t) (now (words .entry)) (t .place) free last q most r (now (words .exit)) × Frugal (q .tests) (r .fault) (r .free) (t .after) free (r .at) ⌝ }
+    ensures { λ r. ⌜ Adds (now (text .entry)) (byName (now (text .entry)) t) (now (words .entry)) (t .place) free last q most r (now (words .exit)) × Frugal (q .tests) (q .held) (r .fault) (r .free) (t .after) free (r .at) ⌝ }
 {
     if cell == 0 {
         return Literals {

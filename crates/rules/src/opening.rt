@@ -55,6 +55,7 @@ fn lay_one(
     table: &mut [u64; 1024],
     look: &mut [u64; 256],
     want: &mut [u64; 256],
+    held: &mut [u64; 256],
     links: &mut [u64; 1024],
     numbers: &mut [u64; 1024],
 ) -> One
@@ -62,7 +63,7 @@ fn lay_one(
     ensures { λ r. ⌜ ((c : ℕ) → (e : Exp) → ExpAt (now (words .entry)) c node row first e
         → Ruled row first e
         (now (table .entry)) (now (table .exit))
-        (letterLists (now (look .entry)) (now (want .entry)) (now (links .entry)) (now (numbers .entry))) (letterLists (now (look .exit)) (now (want .exit)) (now (links .exit)) (now (numbers .exit)))
+        (letterLists (now (look .entry)) (now (want .entry)) (now (held .entry)) (now (links .entry)) (now (numbers .entry))) (letterLists (now (look .exit)) (now (want .exit)) (now (held .exit)) (now (links .exit)) (now (numbers .exit)))
         (r .fault) (r .letter) (r .row) (r .next)) ⌝ }
 {
     let laid = lay(
@@ -74,6 +75,7 @@ fn lay_one(
         table,
         look,
         want,
+        held,
         links,
         numbers,
     );
@@ -110,16 +112,17 @@ fn open_one(
     table: &mut [u64; 1024],
     look: &mut [u64; 256],
     want: &mut [u64; 256],
+    held: &mut [u64; 256],
     links: &mut [u64; 1024],
     numbers: &mut [u64; 1024],
 ) -> One
-    requires { ⌜ SomeMonitor (now words) cell row first × Arrays (now table) (letterLists (now look) (now want) (now links) (now numbers)) ⌝ }
+    requires { ⌜ SomeMonitor (now words) cell row first × Arrays (now table) (letterLists (now look) (now want) (now held) (now links) (now numbers)) ⌝ }
     ensures { λ r. ⌜ ((c : ℕ) → (m : Exp) → MonitorAt (now (words .entry)) c cell row first m
         → Opens row first m
         (now (table .entry)) (now (table .exit))
-        (letterLists (now (look .entry)) (now (want .entry)) (now (links .entry)) (now (numbers .entry))) (letterLists (now (look .exit)) (now (want .exit)) (now (links .exit)) (now (numbers .exit)))
+        (letterLists (now (look .entry)) (now (want .entry)) (now (held .entry)) (now (links .entry)) (now (numbers .entry))) (letterLists (now (look .exit)) (now (want .exit)) (now (held .exit)) (now (links .exit)) (now (numbers .exit)))
         (r .fault) (r .letter) (r .row) (r .next))
-        × Arrays (now (table .exit)) (letterLists (now (look .exit)) (now (want .exit)) (now (links .exit)) (now (numbers .exit))) ⌝ }
+        × Arrays (now (table .exit)) (letterLists (now (look .exit)) (now (want .exit)) (now (held .exit)) (now (links .exit)) (now (numbers .exit))) ⌝ }
 {
     let known = words[cell + 2];
     let impossible = part2(known);
@@ -156,6 +159,7 @@ fn open_one(
         table,
         look,
         want,
+        held,
         links,
         numbers,
     )
@@ -180,18 +184,19 @@ fn lay_all(
     table: &mut [u64; 1024],
     look: &mut [u64; 256],
     want: &mut [u64; 256],
+    held: &mut [u64; 256],
     links: &mut [u64; 1024],
     numbers: &mut [u64; 1024],
     own: &mut [u16; 32],
     firsts: &mut [u16; 32],
 ) -> Opening
-    requires { ⌜ FewLetters (now words) (now monitors) count × Arrays (now table) (letterLists (now look) (now want) (now links) (now numbers)) ⌝ }
+    requires { ⌜ FewLetters (now words) (now monitors) count × Arrays (now table) (letterLists (now look) (now want) (now held) (now links) (now numbers)) ⌝ }
     ensures { λ r. ⌜ ((c : ℕ) → (ms : List Exp) → MonitorsAre (now (words .entry)) c (now (monitors .entry)) count ms → total size ms ≤ 256
         → OpenedBy (byShapes ms) ms
-        (lists (now (table .entry)) (letterLists (now (look .entry)) (now (want .entry)) (now (links .entry)) (now (numbers .entry))) (now (own .entry)) (now (firsts .entry)))
-        (lists (now (table .exit)) (letterLists (now (look .exit)) (now (want .exit)) (now (links .exit)) (now (numbers .exit))) (now (own .exit)) (now (firsts .exit)))
+        (lists (now (table .entry)) (letterLists (now (look .entry)) (now (want .entry)) (now (held .entry)) (now (links .entry)) (now (numbers .entry))) (now (own .entry)) (now (firsts .entry)))
+        (lists (now (table .exit)) (letterLists (now (look .exit)) (now (want .exit)) (now (held .exit)) (now (links .exit)) (now (numbers .exit))) (now (own .exit)) (now (firsts .exit)))
         r)
-        × Arrays (now (table .exit)) (letterLists (now (look .exit)) (now (want .exit)) (now (links .exit)) (now (numbers .exit)))
+        × Arrays (now (table .exit)) (letterLists (now (look .exit)) (now (want .exit)) (now (held .exit)) (now (links .exit)) (now (numbers .exit)))
         × (length (now (own .exit)) ≡ length (now (own .entry))) × (length (now (firsts .exit)) ≡ length (now (firsts .entry))) ⌝ }
 {
     let mut row: usize = 0;
@@ -201,7 +206,18 @@ fn lay_all(
         own[i] = row as u16;
         firsts[i] = first as u16;
         let cell = monitors[i] as usize;
-        let one = open_one(words, cell, row, first, table, look, want, links, numbers);
+        let one = open_one(
+            words,
+            cell,
+            row,
+            first,
+            table,
+            look,
+            want,
+            held,
+            links,
+            numbers,
+        );
         if one.fault != 0 {
             return Opening {
                 fault: one.fault,
@@ -232,18 +248,19 @@ pub(crate) fn open_monitors(
     table: &mut [u64; 1024],
     look: &mut [u64; 256],
     want: &mut [u64; 256],
+    held: &mut [u64; 256],
     links: &mut [u64; 1024],
     numbers: &mut [u64; 1024],
     own: &mut [u16; 32],
     firsts: &mut [u16; 32],
 ) -> Opening
-    requires { ⌜ SomeMonitors (now words) (now monitors) count × Arrays (now table) (letterLists (now look) (now want) (now links) (now numbers)) ⌝ }
+    requires { ⌜ SomeMonitors (now words) (now monitors) count × Arrays (now table) (letterLists (now look) (now want) (now held) (now links) (now numbers)) ⌝ }
     ensures { λ r. ⌜ ((c : ℕ) → (ms : List Exp) → MonitorsAre (now (words .entry)) c (now (monitors .entry)) count ms
         → OpenedBy (byRules ms) ms
-        (lists (now (table .entry)) (letterLists (now (look .entry)) (now (want .entry)) (now (links .entry)) (now (numbers .entry))) (now (own .entry)) (now (firsts .entry)))
-        (lists (now (table .exit)) (letterLists (now (look .exit)) (now (want .exit)) (now (links .exit)) (now (numbers .exit))) (now (own .exit)) (now (firsts .exit)))
+        (lists (now (table .entry)) (letterLists (now (look .entry)) (now (want .entry)) (now (held .entry)) (now (links .entry)) (now (numbers .entry))) (now (own .entry)) (now (firsts .entry)))
+        (lists (now (table .exit)) (letterLists (now (look .exit)) (now (want .exit)) (now (held .exit)) (now (links .exit)) (now (numbers .exit))) (now (own .exit)) (now (firsts .exit)))
         r)
-        × Arrays (now (table .exit)) (letterLists (now (look .exit)) (now (want .exit)) (now (links .exit)) (now (numbers .exit)))
+        × Arrays (now (table .exit)) (letterLists (now (look .exit)) (now (want .exit)) (now (held .exit)) (now (links .exit)) (now (numbers .exit)))
         × (length (now (own .exit)) ≡ length (now (own .entry))) × (length (now (firsts .exit)) ≡ length (now (firsts .entry))) ⌝ }
 {
     let long = first_long(words, monitors, count);
@@ -263,6 +280,7 @@ pub(crate) fn open_monitors(
         table,
         look,
         want,
+        held,
         links,
         numbers,
         own,

@@ -168,10 +168,10 @@ fn impossible_letter(agrees: bool) -> usize
 
 // A letter of a condition, and of the writes whose last link is `link`.
 pub(crate) fn letter_part(words: &mut [u64], free: usize, q: Condition, link: usize) -> Made
-    requires { ⌜ (free + 3 ≤ length (now words)) × (length (now words) ≤ 65535) × (1 ≤ free) × (q .link < free) × (link < free) ⌝ }
+    requires { ⌜ (free + 3 ≤ length (now words)) × (length (now words) ≤ 65535) × (1 ≤ free) × (q .link < free) × (link < free) × (q .held < free) ⌝ }
     ensures { λ r. ⌜ LetterMade (now (words .entry)) free q link (now (words .exit)) (r .free) (r .part) ⌝ }
 {
-    words[free] = quad(LETTER, q.link, link, 0);
+    words[free] = quad(LETTER, q.link, link, q.held);
     words[free + 1] = q.look;
     words[free + 2] = q.want;
     Made {

@@ -3,6 +3,7 @@ use lexer::COLON;
 use lexer::Kind;
 use lexer::RIGHT_BRACKET;
 use lexer::Word;
+use lexer::rule_words;
 use lexer::token_at;
 ghost use mathlib.Core.Path.{_≡_};
 ghost use mathlib.Core.List.{[]};
@@ -25,9 +26,11 @@ pub(crate) const DEFINE: u8 = 22;
 
 pub(crate) const MONITOR: u8 = 23;
 
-pub(crate) const END: u8 = 24;
+pub(crate) const PAST: u8 = 24;
 
-const KNOT: u8 = 25;
+pub(crate) const END: u8 = 25;
+
+const KNOT: u8 = 26;
 
 pub(crate) struct Seen {
     pub(crate) kind: u8,
@@ -46,6 +49,7 @@ fn word_kind(w: Word) -> u8
         Word::Internal => INTERNAL,
         Word::Define => DEFINE,
         Word::Monitor => MONITOR,
+        Word::Past => PAST,
     }
 }
 
@@ -92,7 +96,7 @@ fn value_of(k: Kind) -> u64
 pub(crate) fn see(text: &[u8], at: usize) -> Seen
     ensures { λ r. ⌜ Sees (now (text .entry)) at r ⌝ }
 {
-    let t = token_at(text, at);
+    let t = token_at(rule_words(), text, at);
     let k = t.kind;
     Seen {
         kind: kind_of(k),

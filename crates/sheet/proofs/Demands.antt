@@ -26,6 +26,8 @@ use Rattle.trace.proofs.write_trace.Statement as write-trace
 use Rattle.trace.proofs.write_trace.Met as write-trace-met
 use Rattle.lexer.proofs.token_at.Statement as token-at
 use Rattle.lexer.proofs.token_at.Met as token-at-met
+use Rattle.lexer.proofs.rule_words.Statement as rule-words
+use Rattle.lexer.proofs.rule_words.Met as rule-words-met
 use Rattle.meaning.specs.Answers.{value, refused, byte, letterOf}
 use Rattle.meaning.specs.Names.{Program}
 use Rattle.meaning.specs.Grammar.{plainTokens}
@@ -113,9 +115,12 @@ refused-by-entry = refused-by-met.met
 pub passes-entry : {M : Type 1} → passes.statement M
 passes-entry = passes-met.met
 
--- tokens
+-- tokens, and the words that a rule text reserves
 pub token-at-entry : {M : Type 1} → token-at.statement M
 token-at-entry = token-at-met.met
+
+pub rule-words-entry : {M : Type 1} → rule-words.statement M
+rule-words-entry = rule-words-met.met
 
 -- wire records: one, by itself at a position, and whole traces
 pub read-record-entry : {M : Type 1} → read-record.statement M
@@ -192,7 +197,7 @@ calls-rightly text o e ws =
       replies-rightly (o .monitors) (o .initial) (o .wires) ws,
     )
 
--- And the watch then has the tick count, the stop and the store values that the meaning fixes; all else of it is as opening gave it.
+-- And the watch then has the tick count, the stop, the word before and the store values that the meaning fixes; all else of it but the marks is as opening gave it.
 pub watch-held : (text : List ℕ) (o : Opened) → openText text ≡ value o → (ws : List ℕ)
     → Held (watchOf (value o)) (watchAfterAll (watchOf (value o)) ws) (standing (o .monitors) (o .initial) (o .wires) ws)
 watch-held = calls.watch-held

@@ -142,8 +142,8 @@ pub record Going (v₀ : Watch) (b₀ : ℕ) (records out₀ : List ℕ) (at : �
   pub early : at ≤ 128
 
 -- the watch with what moved
-abbrev pub moved : Watch → (marks values : List ℕ) → (ticks : ℕ) → Watch
-moved v K σ n = withState v (record { inner = record { marks = K; values = σ }; oks = n; stopped = v .stopped })
+abbrev pub moved : Watch → (marks values : List ℕ) → (last ticks : ℕ) → Watch
+moved v K σ b n = withState v (record { inner = record { marks = K; values = σ; last = b }; oks = n; stopped = v .stopped })
 
 pub going-none : (v : Watch) (b : ℕ) (records out : List ℕ) (at : ℕ) → at ≤ 128 → Going v b records out at out v b 0 at
 going-none v b records out at h =
@@ -247,28 +247,28 @@ module _ {v₀ : Watch} {b₀ : ℕ} {records out₀ : List ℕ} {at : ℕ} {out
         pub going-few : k ≡ 0 → v .ticks < 1000000
         going-few q = few-ticks v w k d q
 
-        module _ (q : k ≡ 0) (t : List (List ℕ)) (lent : t ≡ tablesOf v) (i : ℕ) (K σ : List ℕ) (stepped : move i K σ ≡ stepOf (given t (v .values) w) (layoutOf v) (v .marks))
+        module _ (q : k ≡ 0) (t : List (List ℕ)) (lent : t ≡ tablesOf v) (i : ℕ) (K σ : List ℕ) (stepped : move i K σ ≡ stepOf (given t (v .values) (w ∷ v .before ∷ [])) (layoutOf v) (v .marks))
             (b : Bool) (f : b ≡ ltb i (min (v .monitors) 32)) where
           s : move i K σ ≡ stepFrom v (stateOf v .inner) w
           s = lent-step v (stateOf v .inner) w t (move i K σ) lent stepped
 
-          pub going-bad : b ≡ true → Leaves (badLine (v .ticks) w i) (run (withState v (record { inner = record { marks = K; values = σ }; oks = v .ticks; stopped = true })) last) true
+          pub going-bad : b ≡ true → Leaves (badLine (v .ticks) w i) (run (withState v (record { inner = record { marks = K; values = σ; last = v .before }; oks = v .ticks; stopped = true })) last) true
           going-bad y new stop =
-              let u = withState v (record { inner = record { marks = K; values = σ }; oks = v .ticks; stopped = true }) in
+              let u = withState v (record { inner = record { marks = K; values = σ; last = v .before }; oks = v .ticks; stopped = true }) in
               let h = ltb-true i (min (v .monitors) 32) (sym f ∙ y) in
-              let t = ap (λ (x : Move). withState v (record { inner = record { marks = x .marks; values = x .values }; oks = v .ticks; stopped = true })) (bad-keeps (givenOf v (v .values) w) (layoutOf v) (v .marks) i K σ s h) in
+              let t = ap (λ (x : Move). withState v (record { inner = record { marks = x .marks; values = x .values; last = v .before }; oks = v .ticks; stopped = true })) (bad-keeps (givenOf v (v .values) (w ∷ v .before ∷ [])) (layoutOf v) (v .marks) i K σ s h) in
               let c = call-bad v w k d q i (min (v .monitors) 32) K σ s refl u h t in
               going-left (badLine (v .ticks) w i) (run u last) true new stop
               (replied-with (calls.bad i) (sym (c .0))
               ∙ ap (λ (u : Watch). ran (badLine (v .ticks) w i) (run u last) rest true) (sym (c .1)))
 
           abbrev next : Watch
-          next = withState v (record { inner = record { marks = K; values = σ }; oks = v .ticks + 1; stopped = v .stopped })
+          next = withState v (record { inner = record { marks = K; values = σ; last = w }; oks = v .ticks + 1; stopped = v .stopped })
 
           pub going-ok : b ≡ false → (new : List ℕ) (stop : ℕ) → new ≡ sets out place (okLine (v .ticks) w) → stop ≡ place + length (okLine (v .ticks) w)
               → length (okLine (v .ticks) w) ≤ 64 → Going v₀ b₀ records out₀ at new next w (used + n) stop
           going-ok y new stop g h l =
-              let c = call-ok v w k d q i (min (v .monitors) 32) K σ s refl next (ltb-false i (min (v .monitors) 32) (sym f ∙ y)) (one-tick v K σ) in
+              let c = call-ok v w k d q i (min (v .monitors) 32) K σ s refl next (ltb-false i (min (v .monitors) 32) (sym f ∙ y)) (one-tick v K σ w) in
               let t = few-ticks v w k d q in
               let a = length-append (m .done) (okLine (v .ticks) w) in
               record {

@@ -81,6 +81,7 @@ fn leave(
     watch: Watch,
     marks: [u8; 288],
     values: [u64; 16],
+    past: u64,
     ticks: u64,
     stopped: bool,
     before: u64,
@@ -88,11 +89,12 @@ fn leave(
     at: usize,
     ended: bool,
 ) -> Ran
-    ensures { λ r. ⌜ r ≡ record { watch = withState watch (record { inner = record { marks = marks; values = values }; oks = ticks; stopped = stopped }); before = before; used = used; at = at; ended = ended } ⌝ }
+    ensures { λ r. ⌜ r ≡ record { watch = withState watch (record { inner = record { marks = marks; values = values; last = past }; oks = ticks; stopped = stopped }); before = before; used = used; at = at; ended = ended } ⌝ }
 {
     let mut now = watch;
     now.marks = marks;
     now.values = values;
+    now.before = past;
     now.ticks = ticks;
     now.stopped = stopped;
     Ran {
@@ -105,7 +107,7 @@ fn leave(
 }
 
 // Runs the watch over the records, and prints a line for each from place `at` on. What moves is kept apart from the watch, which is
-// large, and the line of a good tick from one to the next.
+// large, and the line of a good tick from one to the next. `past` is the watch's word before, `last` that of the records.
 pub(crate) fn run_from(watch: Watch, before: u64, records: &[u8], out: &mut [u8], at: usize) -> Ran
     requires { ⌜ at ≤ 128 ⌝ }
     ensures { λ r. ⌜ (run (r .watch) (r .before) ≡ runOver (run watch before) (now (records .entry)) .after)
@@ -121,6 +123,7 @@ pub(crate) fn run_from(watch: Watch, before: u64, records: &[u8], out: &mut [u8]
     let mut from = lay(watch.ticks, &mut line);
     let mut marks = watch.marks;
     let mut values = watch.values;
+    let mut past = watch.before;
     let mut ticks = watch.ticks;
     let mut last = before;
     let mut used: usize = 0;
@@ -132,6 +135,7 @@ pub(crate) fn run_from(watch: Watch, before: u64, records: &[u8], out: &mut [u8]
                 watch,
                 marks,
                 values,
+                past,
                 ticks,
                 watch.stopped,
                 last,
@@ -146,6 +150,7 @@ pub(crate) fn run_from(watch: Watch, before: u64, records: &[u8], out: &mut [u8]
                 watch,
                 marks,
                 values,
+                past,
                 ticks,
                 watch.stopped,
                 last,
@@ -162,6 +167,7 @@ pub(crate) fn run_from(watch: Watch, before: u64, records: &[u8], out: &mut [u8]
                 watch,
                 marks,
                 values,
+                past,
                 ticks,
                 watch.stopped,
                 last,
@@ -179,6 +185,7 @@ pub(crate) fn run_from(watch: Watch, before: u64, records: &[u8], out: &mut [u8]
             watch.letters,
             &mut marks,
             &mut values,
+            past,
             word,
         );
         if is_bad(monitor, watch.monitors) {
@@ -192,11 +199,23 @@ pub(crate) fn run_from(watch: Watch, before: u64, records: &[u8], out: &mut [u8]
                 out,
                 place,
             );
-            return leave(watch, marks, values, ticks, true, last, used, end, true);
+            return leave(
+                watch,
+                marks,
+                values,
+                past,
+                ticks,
+                true,
+                last,
+                used,
+                end,
+                true,
+            );
         }
         place = put_ok(ticks, word, &digits, &mut line, from, out, place);
         from = count_on(ticks, from, &mut line);
         ticks = ticks + 1;
+        past = word;
         last = word;
         used += next.length;
     }

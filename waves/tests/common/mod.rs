@@ -57,6 +57,9 @@ fn entries(folder: &Path) -> Vec<PathBuf> {
     }
 }
 
+/// The field may change only where the wire stands.
+const HELD: &str = "input a; input D[7:0]; p -> a || !a & D == past(D); monitor p;";
+
 fn edge_cases() -> Vec<Case> {
     let one = "input a; input b; p -> a || !a; monitor p;";
     let wide = "input D[63:0]; p -> D[0] || !D[0]; monitor p;";
@@ -82,6 +85,8 @@ fn edge_cases() -> Vec<Case> {
         Case::new("a field kept up to a bad tick", "input D[63:0]; p -> D[0], D[0], !D[0]; monitor p;", library::trace(&[u64::MAX; 3])),
         Case::new("a long name", long, scrambled(99, 64)),
         Case::new("all wires", &format!("{many} p -> w0 || !w0; monitor p;"), scrambled(70, 64)),
+        Case::new("a held field that moves", HELD, library::trace(&[0, 1 + 2 * 5, 2 * 5, 2 * 5, 2 * 4])),
+        Case::new("a held field that stays", HELD, library::trace(&[0, 0, 1 + 2 * 200, 2 * 200, 1 + 2 * 7])),
         Case::new("a field of one bit", "input a[0:0]; input b[1:0]; p -> a || !a; monitor p;", scrambled(9, 3)),
     ]
 }

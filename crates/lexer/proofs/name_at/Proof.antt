@@ -20,7 +20,7 @@ knot-at-requires c κs = search needs
 
 returns : tie.Need-returns
 returns c =
-    c .knot-at .ensures _ ∙ name-long _ _ _ (c .before .before .run-end .ensures) (c .before .if1 .taken)
+    c .knot-at .ensures _ ∙ name-long _ _ _ _ (c .before .before .run-end .ensures) (c .before .if1 .taken)
 
 sub-name : tie.Need-sub-name
 sub-name c = search needs
@@ -35,7 +35,7 @@ name-kind-requires : tie.Need-name-kind-requires
 name-kind-requires c κs = search needs
 
 returns-2 : tie.Need-returns-2
-returns-2 c = name-short _ _ _ (c .before .before .before .run-end .ensures) (c .before .before .if1 .left) (c .name-kind .result) (c .name-kind .ensures)
+returns-2 c = name-short _ _ _ _ (c .before .before .before .run-end .ensures) (c .before .before .if1 .left) (c .name-kind .result) (c .name-kind .ensures)
 
 pub name-at-spec : {M : Type 1} → statement M
 name-at-spec =

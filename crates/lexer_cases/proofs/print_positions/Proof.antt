@@ -21,6 +21,9 @@ slice-aggregate-print c = search needs
 print-requires : tie.Need-print-requires Inv-loop μ-loop
 print-requires c κs = search needs
 
+rule-words-requires : tie.Need-rule-words-requires Inv-loop μ-loop
+rule-words-requires c κs = search needs
+
 token-at-requires : tie.Need-token-at-requires Inv-loop μ-loop
 token-at-requires c κs = search needs
 
@@ -42,6 +45,9 @@ slice-aggregate-print-2 c = search needs
 print-requires-2 : tie.Need-print-requires-2 Inv-loop μ-loop
 print-requires-2 c κs = search needs
 
+rule-words-requires-2 : tie.Need-rule-words-requires-2 Inv-loop μ-loop
+rule-words-requires-2 c κs = search needs
+
 token-at-requires-2 : tie.Need-token-at-requires-2 Inv-loop μ-loop
 token-at-requires-2 c κs = search needs
 
@@ -60,6 +66,7 @@ print-positions-spec =
     loop-holds
     slice-aggregate-print
     print-requires
+    rule-words-requires
     token-at-requires
     print-places-requires
     add-at
@@ -67,6 +74,7 @@ print-positions-spec =
     loop-again
     slice-aggregate-print-2
     print-requires-2
+    rule-words-requires-2
     token-at-requires-2
     print-places-requires-2
     returns)

@@ -15,6 +15,9 @@ abbrev μ-loop : tie.MeasureT-loop
 loop-holds : tie.Need-loop-holds Inv-loop μ-loop
 loop-holds c = search needs
 
+rule-words-requires : tie.Need-rule-words-requires Inv-loop μ-loop
+rule-words-requires c κs = search needs
+
 token-at-requires : tie.Need-token-at-requires Inv-loop μ-loop
 token-at-requires c κs = search needs
 
@@ -61,6 +64,7 @@ print-tokens-spec =
     Inv-loop
     μ-loop
     loop-holds
+    rule-words-requires
     token-at-requires
     print-places-requires
     slice-aggregate-print

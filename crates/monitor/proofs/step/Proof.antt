@@ -1,5 +1,6 @@
 -- `monitor::step` meets its contract.
 -- Assumes nothing.
+use mathlib.Core.List.{[], _∷_}
 use borrow.Author.Needs.{needs}
 use Rattle.monitor.proofs.TickSteps.{step-stops, step-moves}
 use Rattle.monitor.specs.Letters.{given}
@@ -14,9 +15,9 @@ step-spec =
     (λ c κs. search needs)
     (λ c κs. search needs)
     (λ c.
-    let a = c .before .before .before .before .before .before .before .args in
-    let g = given (a .tables .now) (a .values .now) (a .word) in
-    step-stops g (a .places .now) (a .own .now) (a .firsts .now) (a .monitors) (a .letters) _ _ (a .marks .now) _ _ (c .before .before .before .before .before .before .least .ensures) (c .before .before .before .before .before .least2 .ensures) (c .before .monitors-go .ensures) (c .if1 .taken))
+    let a = c .before .before .before .before .before .before .before .before .args in
+    let g = given (a .tables .now) (a .values .now) (a .word ∷ a .past ∷ []) in
+    step-stops g (a .places .now) (a .own .now) (a .firsts .now) (a .monitors) (a .letters) _ _ (a .marks .now) _ _ (c .before .before .before .before .before .before .before .least .ensures) (c .before .before .before .before .before .before .least2 .ensures) (c .before .monitors-go .ensures) (c .if1 .taken))
     (λ c κs. search needs)
     (λ c. search needs)
     (λ c. search needs)
@@ -24,8 +25,7 @@ step-spec =
     (λ c κs. search needs)
     (λ c κs. search needs)
     (λ c.
-    let a = c .before .before .before .before .before .before .before .before .before .before .before .before .before .before .before .before .args in
-    let g = given (a .tables .now) (a .values .now) (a .word) in
-    let t = c .before .before .before in
-    step-moves g (a .places .now) (a .own .now) (a .firsts .now) (a .monitors) (a .letters) _ _ (a .marks .now) _ _ (c .before .before .before .before .before .before .before .before .before .before .before .before .before .before .before .least .ensures) (c .before .before .before .before .before .before .before .before .before .before .before .before .before .before .least2 .ensures) (c .before .before .before .before .before .before .before .before .before .before .monitors-go .ensures) (c .before .before .before .before .before .before .before .before .before .if1 .left)
-    _ _ (c .before .before .before .before .before .before .put-marks .ensures) _ _ (t .before .part0 .ensures) (t .least3 .ensures) (c .write-marked .ensures _)))
+    let a = c .before .before .before .before .before .before .before .before .before .before .before .before .before .before .before .before .before .before .args in
+    let g = given (a .tables .now) (a .values .now) (a .word ∷ a .past ∷ []) in
+    step-moves g (a .places .now) (a .own .now) (a .firsts .now) (a .monitors) (a .letters) _ _ (a .marks .now) _ _ (c .before .before .before .before .before .before .before .before .before .before .before .before .before .before .before .before .before .least .ensures) (c .before .before .before .before .before .before .before .before .before .before .before .before .before .before .before .before .least2 .ensures) (c .before .before .before .before .before .before .before .before .before .before .before .monitors-go .ensures) (c .before .before .before .before .before .before .before .before .before .before .if1 .left)
+    _ _ (c .before .before .before .before .before .before .before .put-marks .ensures) _ _ (c .before .before .before .before .before .part0 .ensures) (c .before .before .before .before .least3 .ensures) (c .write-marked .ensures _)))

@@ -13,10 +13,10 @@ use Rattle.monitor.proofs.write_marked.Statement.{statement}
 use Rattle.monitor.proofs.write_marked.Tie as tie
 
 abbrev Inv-loop : tie.InvT-loop
-Inv-loop letters word marks tables values₀ i₀ values i = (S : List ℕ) → writeMarked (given tables S word) marks letters 0 values₀ ≡ writeMarked (given tables S word) marks (letters - i) i values
+Inv-loop letters words marks tables values₀ i₀ values i = (S : List ℕ) → writeMarked (given tables S words) marks letters 0 values₀ ≡ writeMarked (given tables S words) marks (letters - i) i values
 
 abbrev μ-loop : tie.MeasureT-loop
-μ-loop letters word marks tables values₀ i₀ values i = letters - i
+μ-loop letters words marks tables values₀ i₀ values i = letters - i
 
 pub write-marked-spec : {M : Type 1} → statement M
 write-marked-spec =
@@ -27,7 +27,7 @@ write-marked-spec =
     (λ c κs. search needs)
     (λ c S.
     let a = c .before .args in
-    let g = given (a .tables .now) S (a .word) in
+    let g = given (a .tables .now) S (a .words .now) in
     written-first g (a .marks .now) (a .letters) (a .values .now) _ (c .first-marked .ensures))
     (λ c κs. search needs)
     (λ c. search needs)
@@ -40,9 +40,9 @@ write-marked-spec =
     (λ c S.
     let l = c .before .before .before .before .loop in
     let a = c .before .before .before .before .before .before .args in
-    let g = given (a .tables .now) S (a .word) in
+    let g = given (a .tables .now) S (a .words .now) in
     l .inv S ∙ written-more g (a .marks .now) (a .letters) (l .i) (l .values) _ (omega arith) (c .before .write-if .ensures S) _ (c .first-marked2 .ensures))
     (λ c S.
     let l = c .before .loop in
     let a = c .before .before .before .args in
-    written-all (given (a .tables .now) S (a .word)) (a .marks .now) (a .letters) (l .i) (a .values .now) _ (omega arith) (l .inv S)))
+    written-all (given (a .tables .now) S (a .words .now)) (a .marks .now) (a .letters) (l .i) (a .values .now) _ (omega arith) (l .inv S)))

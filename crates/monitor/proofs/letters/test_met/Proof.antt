@@ -13,11 +13,14 @@ test-met-spec =
     (λ c. search needs)
     (λ c. search needs)
     (λ c. search needs)
-    (λ c. no-test (given (c .before .before .args .tables .now) (c .before .before .args .values .now) (c .before .before .args .word)) (c .before .before .args .slot) (c .if1 .taken))
+    (λ c. let a = c .before .before .args in no-test (given (a .tables .now) (a .values .now) (a .words .now)) (a .slot) (c .if1 .taken))
     (λ c κs. search needs)
     (λ c κs. search needs)
     (λ c. search needs)
     (λ c. search needs)
     (λ c. search needs)
+    (λ c. search needs)
     (λ c κs. search needs)
-    (λ c. the-test (given (c .before .before .before .before .before .before .before .args .tables .now) (c .before .before .before .before .before .before .before .args .values .now) (c .before .before .before .before .before .before .before .args .word)) (c .before .before .before .before .before .before .before .args .slot) (c .before .before .before .before .before .if1 .left) _ _ (c .before .before .before .part0 .ensures) (c .link-value .ensures) _ (c .before .before .value-at .ensures)))
+    (λ c.
+    let a = c .before .before .before .before .before .before .before .before .args in
+    the-test (given (a .tables .now) (a .values .now) (a .words .now)) (a .slot) (c .before .before .before .before .before .before .if1 .left) _ _ (c .before .before .before .before .part0 .ensures) (c .link-value .ensures) _ (c .before .before .before .value-at .ensures)))

@@ -25,7 +25,7 @@ write-slot-requires-2 : tie.Need-write-slot-requires-2
 write-slot-requires-2 c κs = search needs
 
 returns : tie.Need-returns
-returns c = λ S. writes (given (c .before .before .before .before .args .tables .now) S (c .before .before .before .before .args .word)) (c .before .before .before .before .args .letter) (c .before .before .before .before .args .values .now) _ _ (c .before .before .write-slot .ensures S) (c .write-slot2 .ensures S)
+returns c = λ S. writes (given (c .before .before .before .before .args .tables .now) S (c .before .before .before .before .args .words .now)) (c .before .before .before .before .args .letter) (c .before .before .before .before .args .values .now) _ _ (c .before .before .write-slot .ensures S) (c .write-slot2 .ensures S)
 
 pub write-letter-spec : {M : Type 1} → statement M
 write-letter-spec =

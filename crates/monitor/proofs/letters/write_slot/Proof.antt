@@ -13,11 +13,14 @@ write-slot-spec =
     (λ c. search needs)
     (λ c. search needs)
     (λ c. search needs)
-    (λ c S. no-write (given (c .before .before .args .tables .now) S (c .before .before .args .word)) (c .before .before .args .slot) (c .if1 .taken) _)
+    (λ c S. let a = c .before .before .args in no-write (given (a .tables .now) S (a .words .now)) (a .slot) (c .if1 .taken) _)
     (λ c κs. search needs)
     (λ c. search needs)
     (λ c. search needs)
     (λ c. search needs)
+    (λ c. search needs)
     (λ c κs. search needs)
     (λ c κs. search needs)
-    (λ c S. the-write (given (c .before .before .before .before .before .before .before .args .tables .now) S (c .before .before .before .before .before .before .before .args .word)) (c .before .before .before .before .before .before .before .args .slot) (c .before .before .before .before .before .if1 .left) _ _ (c .before .before .before .before .part0 .ensures) (c .before .before .link-value .ensures) _ _ (c .put-value .ensures)))
+    (λ c S.
+    let a = c .before .before .before .before .before .before .before .before .args in
+    the-write (given (a .tables .now) S (a .words .now)) (a .slot) (c .before .before .before .before .before .before .if1 .left) _ _ (c .before .before .before .before .before .part0 .ensures) (c .before .before .link-value .ensures) _ _ (c .put-value .ensures)))

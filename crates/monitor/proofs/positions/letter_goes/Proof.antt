@@ -10,7 +10,7 @@ element-copy-out-if1 : tie.Need-element-copy-out-if1
 element-copy-out-if1 c = search needs
 
 returns : tie.Need-returns
-returns c = letter-stays (given (c .before .before .args .tables .now) (c .before .before .args .values .now) (c .before .before .args .word)) (c .before .before .args .places .now) (c .before .before .args .marks .now) (c .before .before .args .letter) (c .before .before .args .memory .now) (c .if1 .taken)
+returns c = letter-stays (given (c .before .before .args .tables .now) (c .before .before .args .values .now) (c .before .before .args .words .now)) (c .before .before .args .places .now) (c .before .before .args .marks .now) (c .before .before .args .letter) (c .before .before .args .memory .now) (c .if1 .taken)
 
 mul-wide : tie.Need-mul-wide
 mul-wide c = search needs
@@ -25,7 +25,7 @@ leave-requires : tie.Need-leave-requires
 leave-requires c κs = search needs
 
 returns-2 : tie.Need-returns-2
-returns-2 c = letter-left (given (c .before .before .before .before .before .before .args .tables .now) (c .before .before .before .before .before .before .args .values .now) (c .before .before .before .before .before .before .args .word)) (c .before .before .before .before .before .before .args .places .now) (c .before .before .before .before .before .before .args .marks .now) (c .before .before .before .before .before .before .args .letter) _ (c .before .before .before .before .before .before .args .memory .now) _ (c .before .before .before .before .if1 .left) (c .before .before .wide .ensures) (c .leave .ensures)
+returns-2 c = letter-left (given (c .before .before .before .before .before .before .args .tables .now) (c .before .before .before .before .before .before .args .values .now) (c .before .before .before .before .before .before .args .words .now)) (c .before .before .before .before .before .before .args .places .now) (c .before .before .before .before .before .before .args .marks .now) (c .before .before .before .before .before .before .args .letter) _ (c .before .before .before .before .before .before .args .memory .now) _ (c .before .before .before .before .if1 .left) (c .before .before .wide .ensures) (c .leave .ensures)
 
 pub letter-goes-spec : {M : Type 1} → statement M
 letter-goes-spec =

@@ -12,7 +12,7 @@ start-goes-requires : tie.Need-start-goes-requires
 start-goes-requires c κs = search needs
 
 returns : tie.Need-returns
-returns c = monitor-stops (given (c .before .before .before .args .tables .now) (c .before .before .before .args .values .now) (c .before .before .before .args .word)) (layout (c .before .before .before .args .places .now) (c .before .before .before .args .own .now) (c .before .before .before .args .firsts .now) (c .before .before .before .args .monitors) (c .before .before .before .args .letters)) (c .before .before .before .args .marks .now) (c .before .before .before .args .monitor) (c .before .before .before .args .memory .now) _ _ (c .before .start-goes .ensures) (not-true _ (c .if1 .taken))
+returns c = monitor-stops (given (c .before .before .before .args .tables .now) (c .before .before .before .args .values .now) (c .before .before .before .args .words .now)) (layout (c .before .before .before .args .places .now) (c .before .before .before .args .own .now) (c .before .before .before .args .firsts .now) (c .before .before .before .args .monitors) (c .before .before .before .args .letters)) (c .before .before .before .args .marks .now) (c .before .before .before .args .monitor) (c .before .before .before .args .memory .now) _ _ (c .before .start-goes .ensures) (not-true _ (c .if1 .taken))
 
 mul-wide : tie.Need-mul-wide
 mul-wide c = search needs
@@ -30,7 +30,7 @@ letters-go-requires : tie.Need-letters-go-requires
 letters-go-requires c κs = search needs
 
 returns-2 : tie.Need-returns-2
-returns-2 c = monitor-on (given (c .before .before .before .before .before .before .before .before .args .tables .now) (c .before .before .before .before .before .before .before .before .args .values .now) (c .before .before .before .before .before .before .before .before .args .word)) (layout (c .before .before .before .before .before .before .before .before .args .places .now) (c .before .before .before .before .before .before .before .before .args .own .now) (c .before .before .before .before .before .before .before .before .args .firsts .now) (c .before .before .before .before .before .before .before .before .args .monitors) (c .before .before .before .before .before .before .before .before .args .letters)) (c .before .before .before .before .before .before .before .before .args .marks .now) (c .before .before .before .before .before .before .before .before .args .monitor) (c .before .before .before .before .before .before .before .before .args .memory .now) _ _ _ _ _ (c .before .before .before .before .before .before .start-goes .ensures) (not-false _ (c .before .before .before .before .before .if1 .left)) (c .before .before .before .wide .ensures) (c .before .before .letters-end .ensures .0) (c .letters-go .ensures)
+returns-2 c = monitor-on (given (c .before .before .before .before .before .before .before .before .args .tables .now) (c .before .before .before .before .before .before .before .before .args .values .now) (c .before .before .before .before .before .before .before .before .args .words .now)) (layout (c .before .before .before .before .before .before .before .before .args .places .now) (c .before .before .before .before .before .before .before .before .args .own .now) (c .before .before .before .before .before .before .before .before .args .firsts .now) (c .before .before .before .before .before .before .before .before .args .monitors) (c .before .before .before .before .before .before .before .before .args .letters)) (c .before .before .before .before .before .before .before .before .args .marks .now) (c .before .before .before .before .before .before .before .before .args .monitor) (c .before .before .before .before .before .before .before .before .args .memory .now) _ _ _ _ _ (c .before .before .before .before .before .before .start-goes .ensures) (not-false _ (c .before .before .before .before .before .if1 .left)) (c .before .before .before .wide .ensures) (c .before .before .letters-end .ensures .0) (c .letters-go .ensures)
 
 pub monitor-goes-spec : {M : Type 1} → statement M
 monitor-goes-spec =

@@ -13,7 +13,7 @@ element-copy-out-if1 : tie.Need-element-copy-out-if1
 element-copy-out-if1 c = search needs
 
 returns : tie.Need-returns
-returns c = start-stays (given (c .before .before .args .tables .now) (c .before .before .args .values .now) (c .before .before .args .word)) (c .before .before .args .own .now) (c .before .before .args .marks .now) (c .before .before .args .monitor) (c .before .before .args .memory .now) (c .if1 .taken)
+returns c = start-stays (given (c .before .before .args .tables .now) (c .before .before .args .values .now) (c .before .before .args .words .now)) (c .before .before .args .own .now) (c .before .before .args .marks .now) (c .before .before .args .monitor) (c .before .before .args .memory .now) (c .if1 .taken)
 
 mul-wide : tie.Need-mul-wide
 mul-wide c = search needs
@@ -28,7 +28,7 @@ ask-requires : tie.Need-ask-requires
 ask-requires c κs = search needs
 
 returns-2 : tie.Need-returns-2
-returns-2 c = start-asked (given (c .before .before .before .before .before .before .args .tables .now) (c .before .before .before .before .before .before .args .values .now) (c .before .before .before .before .before .before .args .word)) (c .before .before .before .before .before .before .args .own .now) (c .before .before .before .before .before .before .args .marks .now) (c .before .before .before .before .before .before .args .monitor) _ (c .before .before .before .before .before .before .args .memory .now) _ (c .before .before .before .before .if1 .left) (c .before .before .wide .ensures) (c .ask .ensures)
+returns-2 c = start-asked (given (c .before .before .before .before .before .before .args .tables .now) (c .before .before .before .before .before .before .args .values .now) (c .before .before .before .before .before .before .args .words .now)) (c .before .before .before .before .before .before .args .own .now) (c .before .before .before .before .before .before .args .marks .now) (c .before .before .before .before .before .before .args .monitor) _ (c .before .before .before .before .before .before .args .memory .now) _ (c .before .before .before .before .if1 .left) (c .before .before .wide .ensures) (c .ask .ensures)
 
 pub start-goes-spec : {M : Type 1} → statement M
 start-goes-spec =

@@ -16,13 +16,14 @@ tables-of-spec =
     (λ c κs. search needs)
     (λ c κs. search needs)
     (λ c κs. search needs)
+    (λ c κs. search needs)
     (λ c. search needs)
     (λ c. search needs)
     (λ c. search needs)
     (λ c. search needs)
     (λ c. search needs)
     (λ c.
-    let p = c .before .before in
-    let v = c .before .before .before .before .before .before .before .before .before .before .before .before .before .args .t1 in
-    let l = p .place2 .ensures ∙ ap (λ (l : List ℕ). sets l 256 (v .want)) (p .before .before .before .before .place .ensures) in
-    ap₂ (λ (l : List ℕ) (n : ℕ). v .table ∷ v .links ∷ v .numbers ∷ set l 512 n ∷ []) l (c .writers-of .ensures)))
+    let v = c .before .before .before .before .before .before .before .before .before .before .before .before .before .before .before .before .before .args .t1 in
+    let l = c .before .before .place3 .ensures
+    ∙ ap (λ (l : List ℕ). sets l 512 (v .held)) (c .before .before .before .before .before .before .place2 .ensures ∙ ap (λ (l : List ℕ). sets l 256 (v .want)) (c .before .before .before .before .before .before .before .before .before .before .place .ensures)) in
+    ap₂ (λ (l : List ℕ) (n : ℕ). v .table ∷ v .links ∷ v .numbers ∷ set l 768 n ∷ []) l (c .writers-of .ensures)))

@@ -18,10 +18,10 @@ use Rattle.monitor.proofs.walk.enter.Reads as enter
 use Rattle.monitor.proofs.walk.+ask+leave.{statement}
 use Rattle.monitor.proofs.walk.+ask+leave.Tie.{close}
 
-abbrev μ-ask : Measures 3 ask-kinds.ps ℕ
+abbrev μ-ask : Measures 4 ask-kinds.ps ℕ
 μ-ask κs a = a .1 .0
 
-abbrev μ-leave : Measures 3 leave-kinds.ps ℕ
+abbrev μ-leave : Measures 4 leave-kinds.ps ℕ
 μ-leave κs a = a .1 .0
 
 pub +ask+leave-spec : {M : Type 1} → statement M

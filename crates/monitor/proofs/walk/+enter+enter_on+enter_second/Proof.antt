@@ -20,13 +20,13 @@ use Rattle.monitor.proofs.walk.enter_letter.Reads as enter-letter
 use Rattle.monitor.proofs.walk.+enter+enter_on+enter_second.{statement}
 use Rattle.monitor.proofs.walk.+enter+enter_on+enter_second.Tie.{close}
 
-abbrev μ-enter : Measures 3 enter-kinds.ps ℕ
+abbrev μ-enter : Measures 4 enter-kinds.ps ℕ
 μ-enter κs a = 3 * a .1 .0
 
-abbrev μ-enter-on : Measures 3 enter-on-kinds.ps ℕ
+abbrev μ-enter-on : Measures 4 enter-on-kinds.ps ℕ
 μ-enter-on κs a = 3 * a .1 .0 + 2
 
-abbrev μ-enter-second : Measures 3 enter-second-kinds.ps ℕ
+abbrev μ-enter-second : Measures 4 enter-second-kinds.ps ℕ
 μ-enter-second κs a = 3 * a .1 .1 .0 + 1
 
 pub +enter+enter-on+enter-second-spec : {M : Type 1} → statement M

@@ -50,13 +50,13 @@ literal-name-requires : tie.Need-literal-name-requires
 literal-name-requires c κs = (first-given _ _ _ _ _ _ (c .before .before .before .before .before .before .before .before .before .before .before .before .before .pre .1 .1) (c .before .before .before .before .before .before .before .before .before .before .before .before .before .pre .0) (c .before .before .before .before .before .before .before .before .before .before .before .before .before .pre .2) _ (c .no-literals2 .ensures .0) (c .no-literals2 .ensures .1) _ (omega arith) (let p = inside-text _ _ _ (c .before .before .before .before .before .before .before .before .before .before .before .before .before .pre .1 .1) in omega arith), c .before .before .before .before .before .before .before .before .before .before .before .before .before .pre .1, c .before .before .before .before .before .before .before .if2 .left, c .before .before .before .before .before .find .ensures)
 
 letter-from-requires-2 : tie.Need-letter-from-requires-2
-letter-from-requires-2 c κs = begun _ _ _ _ _ _ (c .before .before .before .before .before .before .before .before .before .before .before .before .before .before .before .before .before .pre .1 .1) (c .before .before .before .before .before .before .before .before .before .before .before .before .before .before .before .before .before .pre .0) (c .before .before .before .before .before .before .before .before .before .before .before .before .before .before .before .before .before .pre .2) _ (c .before .before .before .before .no-literals2 .ensures .0) (c .before .before .before .before .no-literals2 .ensures .1) _ _ _ (omega arith) (past-place _ _ _ (c .before .before .before .before .before .before .before .before .before .before .before .before .before .before .before .before .before .pre .1 .1) (c .before .before .before .before .before .before .before .before .before .before .before .if2 .left)) _ _ (c .before .before .before .literal-name .ensures .0) (c .before .before .before .literal-name .ensures .1 (c .before .before .before .before .no-literals2 .ensures .1)) (name-same _ _ _ _ _ _ (c .before .before .before .before .before .before .before .before .before .before .before .before .before .before .before .before .before .pre .1 .1) (c .before .before .before .before .before .before .before .before .before .before .before .before .before .before .before .before .before .pre .0) (c .before .before .before .before .before .before .before .before .before .before .before .before .before .before .before .before .before .pre .2) (c .before .before .before .before .before .before .before .before .before .before .before .before .before .if1 .left) (c .before .before .before .before .before .before .before .before .before .before .before .if2 .left) _ (c .before .before .before .before .before .before .before .before .before .find .ensures) _ (c .before .before .before .before .before .before .before .is-production .ensures) (c .before .before .before .before .before .before .if3 .left))
+letter-from-requires-2 c κs = begun _ _ _ _ _ _ (c .before .before .before .before .before .before .before .before .before .before .before .before .before .before .before .before .before .pre .1 .1) (c .before .before .before .before .before .before .before .before .before .before .before .before .before .before .before .before .before .pre .0) (c .before .before .before .before .before .before .before .before .before .before .before .before .before .before .before .before .before .pre .2) _ (c .before .before .before .before .no-literals2 .ensures .0) (c .before .before .before .before .no-literals2 .ensures .1) _ _ _ (omega arith) (past-place _ _ _ (c .before .before .before .before .before .before .before .before .before .before .before .before .before .before .before .before .before .pre .1 .1) (c .before .before .before .before .before .before .before .before .before .before .before .if2 .left)) _ _ (c .before .before .before .literal-name .ensures .0) (c .before .before .before .literal-name .ensures .1 (c .before .before .before .before .no-literals2 .ensures .1) (c .before .before .before .before .no-literals2 .ensures .2)) (name-same _ _ _ _ _ _ (c .before .before .before .before .before .before .before .before .before .before .before .before .before .before .before .before .before .pre .1 .1) (c .before .before .before .before .before .before .before .before .before .before .before .before .before .before .before .before .before .pre .0) (c .before .before .before .before .before .before .before .before .before .before .before .before .before .before .before .before .before .pre .2) (c .before .before .before .before .before .before .before .before .before .before .before .before .before .if1 .left) (c .before .before .before .before .before .before .before .before .before .before .before .if2 .left) _ (c .before .before .before .before .before .before .before .before .before .find .ensures) _ (c .before .before .before .before .before .before .before .is-production .ensures) (c .before .before .before .before .before .before .if3 .left))
 
 same-length-3 : tie.Need-same-length-3
 same-length-3 c = search needs
 
 returns-4 : tie.Need-returns-4
-returns-4 c = letter-read _ _ _ _ _ _ (c .before .before .before .before .before .before .before .before .before .before .before .before .before .before .before .before .before .before .before .before .pre .1 .1) (c .before .before .before .before .before .before .before .before .before .before .before .before .before .before .before .before .before .before .before .before .pre .0) (c .before .before .before .before .before .before .before .before .before .before .before .before .before .before .before .before .before .before .before .before .pre .2) _ (c .before .before .before .before .before .before .before .no-literals2 .ensures .0) (c .before .before .before .before .before .before .before .no-literals2 .ensures .1) _ _ _ (omega arith) (past-place _ _ _ (c .before .before .before .before .before .before .before .before .before .before .before .before .before .before .before .before .before .before .before .before .pre .1 .1) (c .before .before .before .before .before .before .before .before .before .before .before .before .before .before .if2 .left)) _ _ (c .before .before .before .before .before .before .literal-name .ensures .0) (c .before .before .before .before .before .before .literal-name .ensures .1 (c .before .before .before .before .before .before .before .no-literals2 .ensures .1)) (name-same _ _ _ _ _ _ (c .before .before .before .before .before .before .before .before .before .before .before .before .before .before .before .before .before .before .before .before .pre .1 .1) (c .before .before .before .before .before .before .before .before .before .before .before .before .before .before .before .before .before .before .before .before .pre .0) (c .before .before .before .before .before .before .before .before .before .before .before .before .before .before .before .before .before .before .before .before .pre .2) (c .before .before .before .before .before .before .before .before .before .before .before .before .before .before .before .before .if1 .left) (c .before .before .before .before .before .before .before .before .before .before .before .before .before .before .if2 .left) _ (c .before .before .before .before .before .before .before .before .before .before .before .before .find .ensures) _ (c .before .before .before .before .before .before .before .before .before .before .is-production .ensures) (c .before .before .before .before .before .before .before .before .before .if3 .left)) _ _ (c .before .before .letter-from2 .ensures .0) (c .before .before .letter-from2 .ensures .1) (c .before .before .letter-from2 .ensures .2)
+returns-4 c = letter-read _ _ _ _ _ _ (c .before .before .before .before .before .before .before .before .before .before .before .before .before .before .before .before .before .before .before .before .pre .1 .1) (c .before .before .before .before .before .before .before .before .before .before .before .before .before .before .before .before .before .before .before .before .pre .0) (c .before .before .before .before .before .before .before .before .before .before .before .before .before .before .before .before .before .before .before .before .pre .2) _ (c .before .before .before .before .before .before .before .no-literals2 .ensures .0) (c .before .before .before .before .before .before .before .no-literals2 .ensures .1) _ _ _ (omega arith) (past-place _ _ _ (c .before .before .before .before .before .before .before .before .before .before .before .before .before .before .before .before .before .before .before .before .pre .1 .1) (c .before .before .before .before .before .before .before .before .before .before .before .before .before .before .if2 .left)) _ _ (c .before .before .before .before .before .before .literal-name .ensures .0) (c .before .before .before .before .before .before .literal-name .ensures .1 (c .before .before .before .before .before .before .before .no-literals2 .ensures .1) (c .before .before .before .before .before .before .before .no-literals2 .ensures .2)) (name-same _ _ _ _ _ _ (c .before .before .before .before .before .before .before .before .before .before .before .before .before .before .before .before .before .before .before .before .pre .1 .1) (c .before .before .before .before .before .before .before .before .before .before .before .before .before .before .before .before .before .before .before .before .pre .0) (c .before .before .before .before .before .before .before .before .before .before .before .before .before .before .before .before .before .before .before .before .pre .2) (c .before .before .before .before .before .before .before .before .before .before .before .before .before .before .before .before .if1 .left) (c .before .before .before .before .before .before .before .before .before .before .before .before .before .before .if2 .left) _ (c .before .before .before .before .before .before .before .before .before .before .before .before .find .ensures) _ (c .before .before .before .before .before .before .before .before .before .before .is-production .ensures) (c .before .before .before .before .before .before .before .before .before .if3 .left)) _ _ (c .before .before .letter-from2 .ensures .0) (c .before .before .letter-from2 .ensures .1) (c .before .before .letter-from2 .ensures .2)
 
 pub simple-operand-spec : {M : Type 1} → statement M
 simple-operand-spec =

@@ -2,7 +2,7 @@
 -- Assumes nothing.
 use native.Mathlib.Omega.{arith}
 use borrow.Author.Needs.{needs}
-use Rattle.rules.proofs.Placing.{letter-inside, some-tests, some-writes, letter-put}
+use Rattle.rules.proofs.Placing.{letter-inside, held-inside, some-tests, some-writes, letter-put}
 use Rattle.rules.specs.Laying.{letterLists}
 use Rattle.rules.proofs.lay.put_letter.Statement.{statement}
 use Rattle.rules.proofs.lay.put_letter.Tie as tie
@@ -43,6 +43,18 @@ mul-head c = let l = letter-inside _ _ (c .before .before .before .pre .1) in om
 shared-slice-read-head : tie.Need-shared-slice-read-head
 shared-slice-read-head c = let l = letter-inside _ _ (c .before .before .before .before .pre .1) in omega arith
 
+part3-requires : tie.Need-part3-requires
+part3-requires c κs = search needs
+
+held-at-requires : tie.Need-held-at-requires
+held-at-requires c κs = held-inside _ _ _ (c .part3 .ensures) (c .before .before .before .before .before .pre .1)
+
+mul-held : tie.Need-mul-held
+mul-held c = search needs
+
+element-write-held : tie.Need-element-write-held
+element-write-held c = search needs
+
 part1-requires : tie.Need-part1-requires
 part1-requires c κs = search needs
 
@@ -50,7 +62,7 @@ mul-put-links : tie.Need-mul-put-links
 mul-put-links c = search needs
 
 put-links-requires : tie.Need-put-links-requires
-put-links-requires c κs = (search needs, some-tests _ _ _ (c .before .before .part1 .ensures) (c .before .before .before .before .before .before .before .pre .1))
+put-links-requires c κs = (search needs, some-tests _ _ _ (c .before .before .part1 .ensures) (c .before .before .before .before .before .before .before .before .before .pre .1))
 
 part2-requires : tie.Need-part2-requires
 part2-requires c κs = search needs
@@ -62,10 +74,10 @@ add-put-links : tie.Need-add-put-links
 add-put-links c = search needs
 
 put-links-requires-2 : tie.Need-put-links-requires-2
-put-links-requires-2 c κs = (search needs, some-writes _ _ _ (c .before .before .part2 .ensures) (c .before .before .before .before .before .before .before .before .before .before .before .pre .1))
+put-links-requires-2 c κs = (search needs, some-writes _ _ _ (c .before .before .part2 .ensures) (c .before .before .before .before .before .before .before .before .before .before .before .before .before .pre .1))
 
 returns : tie.Need-returns
-returns c = letter-put _ _ _ (letterLists (c .before .before .before .before .before .before .before .before .before .before .before .before .args .look .now) (c .before .before .before .before .before .before .before .before .before .before .before .before .args .want .now) (c .before .before .before .before .before .before .before .before .before .before .before .before .args .links .now) (c .before .before .before .before .before .before .before .before .before .before .before .before .args .numbers .now)) _ _ _ _ _ _ (c .before .before .before .before .before .before .before .part1 .ensures) (c .before .before .before .part2 .ensures) (c .before .before .before .before .put-links .ensures) (c .put-links2 .ensures)
+returns c = letter-put _ _ _ (letterLists (c .before .before .before .before .before .before .before .before .before .before .before .before .before .before .args .look .now) (c .before .before .before .before .before .before .before .before .before .before .before .before .before .before .args .want .now) (c .before .before .before .before .before .before .before .before .before .before .before .before .before .before .args .held .now) (c .before .before .before .before .before .before .before .before .before .before .before .before .before .before .args .links .now) (c .before .before .before .before .before .before .before .before .before .before .before .before .before .before .args .numbers .now)) _ _ _ _ _ _ _ _ (c .before .before .before .before .before .before .before .part1 .ensures) (c .before .before .before .part2 .ensures) (c .before .before .before .before .before .before .before .before .before .part3 .ensures) (c .before .before .before .before .before .before .before .before .held-at .ensures) (c .before .before .before .before .put-links .ensures) (c .put-links2 .ensures)
 
 pub put-letter-spec : {M : Type 1} → statement M
 put-letter-spec =
@@ -83,6 +95,10 @@ put-letter-spec =
     element-write-want
     mul-head
     shared-slice-read-head
+    part3-requires
+    held-at-requires
+    mul-held
+    element-write-held
     part1-requires
     mul-put-links
     put-links-requires

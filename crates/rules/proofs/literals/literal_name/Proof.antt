@@ -8,7 +8,7 @@ use Rattle.rules.proofs.literals.literal_name.Statement.{statement}
 use Rattle.rules.proofs.literals.literal_name.Tie as tie
 
 returns : tie.Need-returns
-returns c = (name-unknown _ _ _ _ _ _ (c .before .before .before .pre .1 .1) (c .before .before .before .pre .2) _ _ _ (c .before .before .before .pre .0) (c .before .before .before .pre .3) (c .if1 .taken), λ e z. absurd (omega arith))
+returns c = (name-unknown _ _ _ _ _ _ (c .before .before .before .pre .1 .1) (c .before .before .before .pre .2) _ _ _ (c .before .before .before .pre .0) (c .before .before .before .pre .3) (c .if1 .taken), λ e h z. absurd (omega arith))
 
 mul-part0 : tie.Need-mul-part0
 mul-part0 c = let l = cell-inside _ _ _ _ _ _ (c .before .before .before .pre .1 .1) (c .before .before .before .pre .2) _ 0 _ (c .before .before .before .pre .0) (c .before .before .before .pre .3) (c .if1 .left) in search needs
@@ -38,13 +38,13 @@ wire-more-requires : tie.Need-wire-more-requires
 wire-more-requires c κs =
     let (a, b) = name-input _ _ _ _ _ _ (c .before .before .before .before .before .before .before .before .before .before .pre .1 .1) (c .before .before .before .before .before .before .before .before .before .before .pre .2) _ 0 _ (c .before .before .before .before .before .before .before .before .before .before .pre .0) (c .before .before .before .before .before .before .before .before .before .before .pre .3) (c .before .before .before .before .before .before .before .if1 .left) _ (c .before .before .before .before .before .part0 .ensures) (c .before .before .before .before .if2 .taken) in
     let p = past-place _ _ _ (c .before .before .before .before .before .before .before .before .before .before .pre .1 .1) (c .before .before .before .before .before .before .before .before .before .before .pre .2) in
-    (given-on (c .before .before .before .before .before .before .before .before .before .before .pre .0) (omega arith) (inside-text _ _ _ (c .before .before .before .before .before .before .before .before .before .before .pre .1 .1) .1), rw (c .part1 .ensures) a, rw (c .before .part02 .ensures, c .part1 .ensures) b, omega arith)
+    (given-on (c .before .before .before .before .before .before .before .before .before .before .pre .0) (omega arith) (inside-text _ _ _ (c .before .before .before .before .before .before .before .before .before .before .pre .1 .1) .1), rw (c .part1 .ensures) a, rw (c .before .part02 .ensures, c .part1 .ensures) b, omega arith, inside-text _ _ _ (c .before .before .before .before .before .before .before .before .before .before .pre .1 .1) .0)
 
 same-length : tie.Need-same-length
 same-length c = search needs
 
 returns-2 : tie.Need-returns-2
-returns-2 c = (name-wires _ _ _ _ _ _ (c .before .before .before .before .before .before .before .before .before .before .before .before .before .pre .1 .1) (c .before .before .before .before .before .before .before .before .before .before .before .before .before .pre .2) _ _ _ (c .before .before .before .before .before .before .before .before .before .before .before .before .before .pre .0) (c .before .before .before .before .before .before .before .before .before .before .before .before .before .pre .3) (c .before .before .before .before .before .before .before .before .before .before .if1 .left) _ (c .before .before .before .before .before .before .before .before .part0 .ensures) (c .before .before .before .before .before .before .before .if2 .taken) _ _ (c .before .before .before .before .part02 .ensures) (c .before .before .before .part1 .ensures) _ _ (c .before .before .wire-more .ensures), λ e z. well (c .before .before .wire-more .ensures .outcome) z .spent .few)
+returns-2 c = (name-wires _ _ _ _ _ _ (c .before .before .before .before .before .before .before .before .before .before .before .before .before .pre .1 .1) (c .before .before .before .before .before .before .before .before .before .before .before .before .before .pre .2) _ _ _ (c .before .before .before .before .before .before .before .before .before .before .before .before .before .pre .0) (c .before .before .before .before .before .before .before .before .before .before .before .before .before .pre .3) (c .before .before .before .before .before .before .before .before .before .before .if1 .left) _ (c .before .before .before .before .before .before .before .before .part0 .ensures) (c .before .before .before .before .before .before .before .if2 .taken) _ _ (c .before .before .before .before .part02 .ensures) (c .before .before .before .part1 .ensures) _ _ (c .before .before .wire-more .ensures), λ e h z. well (c .before .before .wire-more .ensures .outcome) z .spent .few)
 
 define-literal-requires : tie.Need-define-literal-requires
 define-literal-requires c κs = (c .before .before .before .before .before .before .before .before .pre .0, define-at _ _ _ _ _ _ (c .before .before .before .before .before .before .before .before .pre .1 .1) (c .before .before .before .before .before .before .before .before .pre .2) _ 0 _ (c .before .before .before .before .before .before .before .before .pre .0) (c .before .before .before .before .before .before .before .before .pre .3) (c .before .before .before .before .before .if1 .left) _ (c .before .before .before .part0 .ensures) (c .before .if3 .taken), c .before .before .before .before .before .before .before .before .pre .1, c .before .before .before .before .before .before .before .before .pre .2)
@@ -56,7 +56,7 @@ returns-3 : tie.Need-returns-3
 returns-3 c = (name-define _ _ _ _ _ _ (c .before .before .before .before .before .before .before .before .before .before .before .pre .1 .1) (c .before .before .before .before .before .before .before .before .before .before .before .pre .2) _ _ _ (c .before .before .before .before .before .before .before .before .before .before .before .pre .0) (c .before .before .before .before .before .before .before .before .before .before .before .pre .3) (c .before .before .before .before .before .before .before .before .if1 .left) _ (c .before .before .before .before .before .before .part0 .ensures) (c .before .before .before .before .if3 .taken) _ _ (c .before .before .define-literal .ensures .0), c .before .before .define-literal .ensures .1)
 
 returns-4 : tie.Need-returns-4
-returns-4 c = (name-other _ _ _ _ _ _ (c .before .before .before .before .before .before .before .before .pre .1 .1) (c .before .before .before .before .before .before .before .before .pre .2) _ _ _ (c .before .before .before .before .before .before .before .before .pre .0) (c .before .before .before .before .before .before .before .before .pre .3) (c .before .before .before .before .before .if1 .left) _ (c .before .before .before .part0 .ensures) (c .before .before .if2 .left) (c .before .if3 .left) (c .if4 .taken), λ e z. absurd (omega arith))
+returns-4 c = (name-other _ _ _ _ _ _ (c .before .before .before .before .before .before .before .before .pre .1 .1) (c .before .before .before .before .before .before .before .before .pre .2) _ _ _ (c .before .before .before .before .before .before .before .before .pre .0) (c .before .before .before .before .before .before .before .before .pre .3) (c .before .before .before .before .before .if1 .left) _ (c .before .before .before .part0 .ensures) (c .before .before .if2 .left) (c .before .if3 .left) (c .if4 .taken), λ e h z. absurd (omega arith))
 
 store-name-requires : tie.Need-store-name-requires
 store-name-requires c κs = (c .before .before .before .before .before .before .before .before .before .pre .0, test-at _ _ _ _ _ _ (c .before .before .before .before .before .before .before .before .before .pre .1 .1) (c .before .before .before .before .before .before .before .before .before .pre .2) _ 0 _ (c .before .before .before .before .before .before .before .before .before .pre .0) (c .before .before .before .before .before .before .before .before .before .pre .3) (c .before .before .before .before .before .before .if1 .left) _ (c .before .before .before .before .part0 .ensures) (c .before .if4 .left), c .before .before .before .before .before .before .before .before .before .pre .1, c .before .before .before .before .before .before .before .before .before .pre .2)

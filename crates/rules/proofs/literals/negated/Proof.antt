@@ -2,6 +2,7 @@
 -- Assumes nothing.
 use native.Mathlib.Omega.{arith}
 use borrow.Author.Needs.{needs}
+use Rattle.rules.proofs.Stepping.{inside-text}
 use Rattle.rules.proofs.LiteralSteps.{given-declared, given-on, no-input, input-inside, input-past, input-read}
 use Rattle.rules.proofs.literals.negated.Statement.{statement}
 use Rattle.rules.proofs.literals.negated.Tie as tie
@@ -37,7 +38,7 @@ wire-more-requires : tie.Need-wire-more-requires
 wire-more-requires c κs =
     let (l, a, b) = input-inside _ _ _ _ _ _ (c .before .before .before .before .before .before .before .before .see .ensures) _ 0 _ _ (c .before .before .before .before .before .before .find-kind .ensures) (c .before .before .before .before .before .before .before .before .before .before .before .pre) (c .before .before .before .before .if1 .left) in
     let p = input-past _ _ _ _ _ _ (c .before .before .before .before .before .before .before .before .see .ensures) _ 0 _ _ (c .before .before .before .before .before .before .find-kind .ensures) (c .before .before .before .before .before .before .before .before .before .before .before .pre) (c .before .before .before .before .if1 .left) in
-    (given-on (c .before .before .before .before .before .before .before .before .before .before .before .pre) (omega arith) (p .1), rw (c .part1 .ensures) a, rw (c .before .part0 .ensures, c .part1 .ensures) b, omega arith)
+    (given-on (c .before .before .before .before .before .before .before .before .before .before .before .pre) (omega arith) (p .1), rw (c .part1 .ensures) a, rw (c .before .part0 .ensures, c .part1 .ensures) b, omega arith, inside-text _ _ _ (c .before .before .before .before .before .before .before .before .see .ensures) .0)
 
 same-length-2 : tie.Need-same-length-2
 same-length-2 c = search needs

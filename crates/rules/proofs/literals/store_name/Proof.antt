@@ -11,7 +11,7 @@ add-if1 : tie.Need-add-if1
 add-if1 c = search needs
 
 returns : tie.Need-returns
-returns c = (λ n w s. test-crowded _ _ _ _ _ _ (c .before .before .before .before .pre .2 .1) (c .before .before .before .before .pre .3) _ _ 0 (c .before .before .before .before .pre .0) (c .if1 .taken) n w, λ e z. absurd (omega arith))
+returns c = (λ n w s. test-crowded _ _ _ _ _ _ (c .before .before .before .before .pre .2 .1) (c .before .before .before .before .pre .3) _ _ 0 (c .before .before .before .before .pre .0) (c .if1 .taken) n w, λ e h z. absurd (omega arith))
 
 add-what : tie.Need-add-what
 add-what c = search needs
@@ -38,7 +38,7 @@ same-length : tie.Need-same-length
 same-length c = search needs
 
 returns-2 : tie.Need-returns-2
-returns-2 c = (test-read _ _ _ _ _ _ (c .before .before .before .before .before .before .before .before .before .before .before .pre .2 .1) (c .before .before .before .before .before .before .before .before .before .before .before .pre .3) _ _ _ (c .before .before .before .before .before .before .before .before .before .before .before .pre .0) (c .before .before .before .before .before .before .before .if1 .left) _ _ (c .before .before .before .before .part0 .ensures) (c .before .before .before .part1 .ensures) _ _ (c .before .before .store-literal .ensures _ (c .before .before .before .before .before .before .before .if1 .left)), λ e z. let s = well (c .before .before .store-literal .ensures _ (c .before .before .before .before .before .before .before .if1 .left) .outcome) z .spent in s .few)
+returns-2 c = (test-read _ _ _ _ _ _ (c .before .before .before .before .before .before .before .before .before .before .before .pre .2 .1) (c .before .before .before .before .before .before .before .before .before .before .before .pre .3) _ _ _ (c .before .before .before .before .before .before .before .before .before .before .before .pre .0) (c .before .before .before .before .before .before .before .if1 .left) _ _ (c .before .before .before .before .part0 .ensures) (c .before .before .before .part1 .ensures) _ _ (c .before .before .store-literal .ensures _ (c .before .before .before .before .before .before .before .if1 .left)), λ e h z. let s = well (c .before .before .store-literal .ensures _ (c .before .before .before .before .before .before .before .if1 .left) .outcome) z .spent in s .few)
 
 pub store-name-spec : {M : Type 1} → statement M
 store-name-spec =

@@ -17,7 +17,7 @@ returns : tie.Need-returns
 returns c = wires-bit _ _ _ _ _ _ (c .before .before .before .see .ensures) _ _ _ _ _ _ (c .before .before .before .before .before .before .pre .0 .room .inside) (c .before .if1 .taken) _ _ (c .bit-literal .ensures _ _ _)
 
 wire-equals-requires : tie.Need-wire-equals-requires
-wire-equals-requires c κs = (let p = past _ _ _ (c .before .before .before .before .before .before .see .ensures) (omega arith) in given-on (c .before .before .before .before .before .before .before .before .before .pre .0) (omega arith) (p .1), c .before .before .before .before .before .before .before .before .before .pre .1, c .before .before .before .before .before .before .before .before .before .pre .2)
+wire-equals-requires c κs = (let p = past _ _ _ (c .before .before .before .before .before .before .see .ensures) (omega arith) in given-on (c .before .before .before .before .before .before .before .before .before .pre .0) (omega arith) (p .1), c .before .before .before .before .before .before .before .before .before .pre .1, c .before .before .before .before .before .before .before .before .before .pre .2, c .before .before .before .before .before .before .before .before .before .pre .4, c .before .before .before .before .before .before .before .before .before .pre .0 .room .inside)
 
 same-length : tie.Need-same-length
 same-length c = search needs

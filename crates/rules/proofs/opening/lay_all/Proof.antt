@@ -13,13 +13,13 @@ use Rattle.rules.proofs.opening.lay_all.Statement.{statement}
 use Rattle.rules.proofs.opening.lay_all.Tie as tie
 
 abbrev Inv-loop : tie.InvT-loop
-Inv-loop words monitors count table₀ look₀ want₀ links₀ numbers₀ own₀ firsts₀ row₀ first₀ i₀ table look want links numbers own firsts row first i =
-    Arrays table (letterLists look want links numbers) × (length own ≡ length own₀) × (length firsts ≡ length firsts₀)
-    × AllGoing words monitors count (lists table₀ (letterLists look₀ want₀ links₀ numbers₀) own₀ firsts₀)
-    (lists table (letterLists look want links numbers) own firsts) i row first
+Inv-loop words monitors count table₀ look₀ want₀ held₀ links₀ numbers₀ own₀ firsts₀ row₀ first₀ i₀ table look want held links numbers own firsts row first i =
+    Arrays table (letterLists look want held links numbers) × (length own ≡ length own₀) × (length firsts ≡ length firsts₀)
+    × AllGoing words monitors count (lists table₀ (letterLists look₀ want₀ held₀ links₀ numbers₀) own₀ firsts₀)
+    (lists table (letterLists look want held links numbers) own firsts) i row first
 
 abbrev μ-loop : tie.MeasureT-loop
-μ-loop words monitors count table₀ look₀ want₀ links₀ numbers₀ own₀ firsts₀ row₀ first₀ i₀ table look want links numbers own firsts row first i = count - i
+μ-loop words monitors count table₀ look₀ want₀ held₀ links₀ numbers₀ own₀ firsts₀ row₀ first₀ i₀ table look want held links numbers own firsts row first i = count - i
 
 loop-holds : tie.Need-loop-holds Inv-loop μ-loop
 loop-holds c = (c .before .pre .1, refl, refl, going-start _ _ _ _)
@@ -52,10 +52,10 @@ cast-cell : tie.Need-cast-cell Inv-loop μ-loop
 cast-cell c = let l = cell-inside _ _ _ _ (some-next _ _ _ _ _ _ _ _ _ _ _ (c .before .before .loop .inv .3) (c .before .loop-test .taken) (c .before .before .before .before .pre .0)) in search needs
 
 open-one-requires : tie.Need-open-one-requires Inv-loop μ-loop
-open-one-requires c κs = (some-next _ _ _ _ _ _ _ _ _ _ _ (c .before .before .before .before .before .before .before .loop .inv .3) (c .before .before .before .before .before .before .loop-test .taken) (c .before .before .before .before .before .before .before .before .before .pre .0), c .before .before .before .before .before .before .before .loop .inv .0)
+open-one-requires c κs = (some-next _ _ _ _ _ _ _ _ _ _ _ (c .before .before .before .before .before .before .before .before .loop .inv .3) (c .before .before .before .before .before .before .before .loop-test .taken) (c .before .before .before .before .before .before .before .before .before .before .pre .0), c .before .before .before .before .before .before .before .before .loop .inv .0)
 
 returns : tie.Need-returns Inv-loop μ-loop
-returns c = (going-refused _ _ _ _ _ _ _ _ _ _ _ (c .before .before .before .before .before .before .before .before .before .before .loop .inv .3) (c .before .before .before .before .before .before .before .before .before .loop-test .taken) _ _ _ _ _ _ (c .before .before .open-one .ensures .0) (c .if1 .taken) _, c .before .before .open-one .ensures .1, simp length-set (c .before .before .before .before .before .before .before .before .before .before .loop .inv .1), simp length-set (c .before .before .before .before .before .before .before .before .before .before .loop .inv .2))
+returns c = (going-refused _ _ _ _ _ _ _ _ _ _ _ (c .before .before .before .before .before .before .before .before .before .before .before .loop .inv .3) (c .before .before .before .before .before .before .before .before .before .before .loop-test .taken) _ _ _ _ _ _ (c .before .before .open-one .ensures .0) (c .if1 .taken) _, c .before .before .open-one .ensures .1, simp length-set (c .before .before .before .before .before .before .before .before .before .before .before .loop .inv .1), simp length-set (c .before .before .before .before .before .before .before .before .before .before .before .loop .inv .2))
 
 add-i : tie.Need-add-i Inv-loop μ-loop
 add-i c = search needs
@@ -64,7 +64,7 @@ loop-less : tie.Need-loop-less Inv-loop μ-loop
 loop-less c = search needs
 
 loop-again : tie.Need-loop-again Inv-loop μ-loop
-loop-again c = (c .before .before .open-one .ensures .1, simp length-set (c .before .before .before .before .before .before .before .before .before .before .loop .inv .1), simp length-set (c .before .before .before .before .before .before .before .before .before .before .loop .inv .2), going-next _ _ _ _ _ _ _ _ _ _ _ (c .before .before .before .before .before .before .before .before .before .before .loop .inv .3) (c .before .before .before .before .before .before .before .before .before .loop-test .taken) _ _ _ _ _ _ (c .before .before .open-one .ensures .0) (c .if1 .left))
+loop-again c = (c .before .before .open-one .ensures .1, simp length-set (c .before .before .before .before .before .before .before .before .before .before .before .loop .inv .1), simp length-set (c .before .before .before .before .before .before .before .before .before .before .before .loop .inv .2), going-next _ _ _ _ _ _ _ _ _ _ _ (c .before .before .before .before .before .before .before .before .before .before .before .loop .inv .3) (c .before .before .before .before .before .before .before .before .before .before .loop-test .taken) _ _ _ _ _ _ (c .before .before .open-one .ensures .0) (c .if1 .left))
 
 returns-2 : tie.Need-returns-2 Inv-loop μ-loop
 returns-2 c = (going-end _ _ _ _ _ _ _ _ _ _ _ (c .before .loop .inv .3) (λ h. omega (arith, c .loop-test .left)), c .before .loop .inv .0, c .before .loop .inv .1, c .before .loop .inv .2)

@@ -6,7 +6,7 @@ use Rattle.rules.proofs.opening.lay_one.Statement.{statement}
 use Rattle.rules.proofs.opening.lay_one.Tie as tie
 
 lay-requires : tie.Need-lay-requires
-lay-requires c κs = c .before .before .before .before .before .before .pre
+lay-requires c κs = c .before .before .before .before .before .before .before .pre
 
 judge-requires : tie.Need-judge-requires
 judge-requires c κs = search needs

@@ -18,8 +18,8 @@ shared-slice-read-known c = cell-inside _ _ _ _ (c .before .before .pre .0)
 part2-requires : tie.Need-part2-requires
 part2-requires c κs = search needs
 
-sub-t18 : tie.Need-sub-t18
-sub-t18 c = search needs
+sub-t19 : tie.Need-sub-t19
+sub-t19 c = search needs
 
 returns : tie.Need-returns
 returns c = (opens-impossible _ _ _ _ _ (c .before .part2 .ensures) (c .if1 .taken) _ _, c .before .before .before .before .pre .1)
@@ -33,8 +33,8 @@ returns-2 c = (opens-null _ _ _ _ _ (c .before .before .before .part2 .ensures) 
 part3-requires : tie.Need-part3-requires
 part3-requires c κs = search needs
 
-sub-t19 : tie.Need-sub-t19
-sub-t19 c = search needs
+sub-t20 : tie.Need-sub-t20
+sub-t20 c = search needs
 
 returns-3 : tie.Need-returns-3
 returns-3 c = (opens-hollow _ _ _ _ _ (c .before .before .before .before .before .part2 .ensures) (c .before .before .before .before .if1 .left) _ (c .before .before .before .part1 .ensures) (c .before .before .if2 .left) _ (c .before .part3 .ensures) (c .if3 .taken) _ _, c .before .before .before .before .before .before .before .before .pre .1)
@@ -52,10 +52,10 @@ part0-requires : tie.Need-part0-requires
 part0-requires c κs = search needs
 
 lay-one-requires : tie.Need-lay-one-requires
-lay-one-requires c κs = some-exp _ _ _ _ _ (c .before .before .before .before .before .before .before .before .before .before .before .before .part2 .ensures) (c .before .before .before .before .before .before .before .before .before .before .before .if1 .left) _ (c .before .before .before .before .before .before .before .before .before .before .part1 .ensures) (c .before .before .before .before .before .before .before .before .before .if2 .left) _ (c .before .before .before .before .before .before .before .before .part3 .ensures) (c .before .before .before .before .before .before .before .if3 .left) _ (c .before .before .before .before .before .part0 .ensures) (c .before .before .before .before .before .before .before .before .before .before .before .before .before .before .before .pre .0)
+lay-one-requires c κs = some-exp _ _ _ _ _ (c .before .before .before .before .before .before .before .before .before .before .before .before .before .part2 .ensures) (c .before .before .before .before .before .before .before .before .before .before .before .before .if1 .left) _ (c .before .before .before .before .before .before .before .before .before .before .before .part1 .ensures) (c .before .before .before .before .before .before .before .before .before .before .if2 .left) _ (c .before .before .before .before .before .before .before .before .before .part3 .ensures) (c .before .before .before .before .before .before .before .before .if3 .left) _ (c .before .before .before .before .before .before .part0 .ensures) (c .before .before .before .before .before .before .before .before .before .before .before .before .before .before .before .before .pre .0)
 
 returns-4 : tie.Need-returns-4
-returns-4 c = (opens-ruled _ _ _ _ _ (c .before .before .before .before .before .before .before .before .before .before .before .before .before .part2 .ensures) (c .before .before .before .before .before .before .before .before .before .before .before .before .if1 .left) _ (c .before .before .before .before .before .before .before .before .before .before .before .part1 .ensures) (c .before .before .before .before .before .before .before .before .before .before .if2 .left) _ (c .before .before .before .before .before .before .before .before .before .part3 .ensures) (c .before .before .before .before .before .before .before .before .if3 .left) _ (c .before .before .before .before .before .before .part0 .ensures) _ _ _ _ _ _ _ _ (c .lay-one .ensures) (c .before .before .before .before .before .before .before .before .before .before .before .before .before .before .before .before .pre .1), ruled-arrays _ _ _ _ _ (c .before .before .before .before .before .before .before .before .before .before .before .before .before .part2 .ensures) (c .before .before .before .before .before .before .before .before .before .before .before .before .if1 .left) _ (c .before .before .before .before .before .before .before .before .before .before .before .part1 .ensures) (c .before .before .before .before .before .before .before .before .before .before .if2 .left) _ (c .before .before .before .before .before .before .before .before .before .part3 .ensures) (c .before .before .before .before .before .before .before .before .if3 .left) _ (c .before .before .before .before .before .before .part0 .ensures) _ _ _ _ _ _ _ _ (c .lay-one .ensures) (c .before .before .before .before .before .before .before .before .before .before .before .before .before .before .before .before .pre .1) (c .before .before .before .before .before .before .before .before .before .before .before .before .before .before .before .before .pre .0))
+returns-4 c = (opens-ruled _ _ _ _ _ (c .before .before .before .before .before .before .before .before .before .before .before .before .before .before .part2 .ensures) (c .before .before .before .before .before .before .before .before .before .before .before .before .before .if1 .left) _ (c .before .before .before .before .before .before .before .before .before .before .before .before .part1 .ensures) (c .before .before .before .before .before .before .before .before .before .before .before .if2 .left) _ (c .before .before .before .before .before .before .before .before .before .before .part3 .ensures) (c .before .before .before .before .before .before .before .before .before .if3 .left) _ (c .before .before .before .before .before .before .before .part0 .ensures) _ _ _ _ _ _ _ _ (c .lay-one .ensures) (c .before .before .before .before .before .before .before .before .before .before .before .before .before .before .before .before .before .pre .1), ruled-arrays _ _ _ _ _ (c .before .before .before .before .before .before .before .before .before .before .before .before .before .before .part2 .ensures) (c .before .before .before .before .before .before .before .before .before .before .before .before .before .if1 .left) _ (c .before .before .before .before .before .before .before .before .before .before .before .before .part1 .ensures) (c .before .before .before .before .before .before .before .before .before .before .before .if2 .left) _ (c .before .before .before .before .before .before .before .before .before .before .part3 .ensures) (c .before .before .before .before .before .before .before .before .before .if3 .left) _ (c .before .before .before .before .before .before .before .part0 .ensures) _ _ _ _ _ _ _ _ (c .lay-one .ensures) (c .before .before .before .before .before .before .before .before .before .before .before .before .before .before .before .before .before .pre .1) (c .before .before .before .before .before .before .before .before .before .before .before .before .before .before .before .before .before .pre .0))
 
 pub open-one-spec : {M : Type 1} → statement M
 open-one-spec =
@@ -65,12 +65,12 @@ open-one-spec =
     mul-known
     shared-slice-read-known
     part2-requires
-    sub-t18
+    sub-t19
     returns
     part1-requires
     returns-2
     part3-requires
-    sub-t19
+    sub-t20
     returns-3
     add-part0
     mul-part0

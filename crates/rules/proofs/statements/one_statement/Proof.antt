@@ -3,6 +3,7 @@
 use native.Mathlib.Omega.{arith}
 use mathlib.Core.List.{[]}
 use Rattle.lexer.specs.Tokens as token
+use Rattle.meaning.proofs.Outcomes.{begins-input, begins-store, begins-define}
 use Rattle.rules.proofs.StatementSteps.{word-ready, word-declares, name-at, none-declares}
 use Rattle.rules.proofs.statements.one_statement.Statement.{statement}
 use Rattle.rules.proofs.statements.one_statement.Tie as tie
@@ -14,7 +15,7 @@ same-length : tie.Need-same-length
 same-length c = c .before .before .input .ensures [] .words
 
 returns : tie.Need-returns
-returns c = word-declares _ _ _ (c .before .before .before .before .before .before .before .before .pre .1) _ _ _ _ token.input (c .before .before .before .before .if1 .taken) _ _ _ (c .before .before .input .ensures _)
+returns c = word-declares _ _ _ (c .before .before .before .before .before .before .before .before .pre .1) _ _ _ _ begins-input (c .before .before .before .before .if1 .taken) _ _ _ (c .before .before .input .ensures _)
 
 store-requires : tie.Need-store-requires
 store-requires c κs = word-ready _ _ _ (c .before .before .before .before .before .before .before .before .pre .1) _ _ _ _ token.internal (c .before .before .if2 .taken) (c .before .before .before .before .before .before .before .before .pre .0)
@@ -23,7 +24,7 @@ same-length-2 : tie.Need-same-length-2
 same-length-2 c = c .before .before .store .ensures .words
 
 returns-2 : tie.Need-returns-2
-returns-2 c = word-declares _ _ _ (c .before .before .before .before .before .before .before .before .before .before .before .pre .1) _ _ _ _ token.internal (c .before .before .before .before .before .if2 .taken) _ _ _ (c .before .before .store .ensures)
+returns-2 c = word-declares _ _ _ (c .before .before .before .before .before .before .before .before .before .before .before .pre .1) _ _ _ _ begins-store (c .before .before .before .before .before .if2 .taken) _ _ _ (c .before .before .store .ensures)
 
 define-requires : tie.Need-define-requires
 define-requires c κs = (_, word-ready _ _ _ (c .before .before .before .before .before .before .before .before .before .pre .1) _ _ _ _ token.define (c .before .if3 .taken) (c .before .before .before .before .before .before .before .before .before .pre .0))
@@ -32,7 +33,7 @@ same-length-3 : tie.Need-same-length-3
 same-length-3 c = c .before .before .define .ensures [] .words
 
 returns-3 : tie.Need-returns-3
-returns-3 c = word-declares _ _ _ (c .before .before .before .before .before .before .before .before .before .before .before .before .pre .1) _ _ _ _ token.define (c .before .before .before .before .if3 .taken) _ _ _ (c .before .before .define .ensures _)
+returns-3 c = word-declares _ _ _ (c .before .before .before .before .before .before .before .before .before .before .before .before .pre .1) _ _ _ _ begins-define (c .before .before .before .before .if3 .taken) _ _ _ (c .before .before .define .ensures _)
 
 production-requires : tie.Need-production-requires
 production-requires c κs = ((_, c .before .before .before .before .before .before .before .before .before .before .before .pre .0), name-at _ _ _ (c .before .before .before .before .before .before .before .before .before .before .before .pre .1) (c .before .if4 .taken))

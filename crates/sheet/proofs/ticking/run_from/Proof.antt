@@ -13,11 +13,11 @@ use Rattle.sheet.proofs.ticking.run_from.Statement.{statement}
 use Rattle.sheet.proofs.ticking.run_from.Tie as tie
 
 abbrev Inv-loop : tie.InvT-loop
-Inv-loop before records out₀ at watch tables digits line₀ from₀ marks₀ values₀ ticks₀ last₀ used₀ place₀ out line from marks values ticks last used place =
-    Going watch before records out₀ at out (moved watch marks values ticks) last used place × Laid line from ticks
+Inv-loop before records out₀ at watch tables digits line₀ from₀ marks₀ values₀ past₀ ticks₀ last₀ used₀ place₀ out line from marks values past ticks last used place =
+    Going watch before records out₀ at out (moved watch marks values past ticks) last used place × Laid line from ticks
 
 abbrev μ-loop : tie.MeasureT-loop
-μ-loop before records out₀ at watch tables digits line₀ from₀ marks₀ values₀ ticks₀ last₀ used₀ place₀ out line from marks values ticks last used place = length records - used
+μ-loop before records out₀ at watch tables digits line₀ from₀ marks₀ values₀ past₀ ticks₀ last₀ used₀ place₀ out line from marks values past ticks last used place = length records - used
 
 tables-of-requires : tie.Need-tables-of-requires Inv-loop μ-loop
 tables-of-requires c κs = search needs
