@@ -226,7 +226,7 @@ unfolding storeTests
 count-append [] ds = sym (zero-add _)
 count-append (wire lo w v ∷ ls) ds = count-append ls ds
 count-append (wire-store lo w s ∷ ls) ds = omega (arith, count-append ls ds)
-count-append (wire-past lo w ∷ ls) ds = count-append ls ds
+count-append (wire-past lo w ∷ ls) ds = omega (arith, count-append ls ds)
 count-append (store s v ∷ ls) ds = omega (arith, count-append ls ds)
 
 few-if : (c : Context) (ls : List Literal) (more : ℕ) → tooMany c ls more ≡ false → Few c ls more
