@@ -43,15 +43,25 @@ pub fn record(before: u64, word: u64) -> Vec<u8> {
     record
 }
 
+/// The words of a trace, up to the first record that is refused.
+pub fn words(trace: &[u8]) -> Vec<u64> {
+    let (mut words, mut at, mut before) = (Vec::new(), 0, 0);
+    while let Ok(Some(read)) = second::record::read(trace, at, before) {
+        words.push(read.word);
+        (at, before) = (read.end, read.word);
+    }
+    words
+}
+
 /// Whether a record of a case's trace, up to the first that is refused, is written otherwise than `second` writes it.
 pub fn records_differ(entry: RecordEntry, case: &Case) -> bool {
-    let (mut at, mut before) = (0, 0);
-    while let Ok(Some(read)) = second::record::read(&case.trace, at, before) {
-        let call = |range: *mut u8, length: usize| unsafe { entry(before, read.word, range, length) };
-        if !keeps_all(call, 4, &record(before, read.word)) {
+    let mut before = 0;
+    for word in words(&case.trace) {
+        let call = |range: *mut u8, length: usize| unsafe { entry(before, word, range, length) };
+        if !keeps_all(call, 4, &record(before, word)) {
             return true;
         }
-        (at, before) = (read.end, read.word);
+        before = word;
     }
     false
 }
@@ -143,6 +153,13 @@ mod tests {
         for (what, entry) in wrong {
             assert!(differs(entry, &case()), "{what}");
         }
+    }
+
+    #[test]
+    fn words_are_read_up_to_a_refusal() {
+        assert_eq!(words(&case().trace), [1, 1, 0]);
+        assert_eq!(words(&[1, 1, 2, 9, 1, 1, 0]), [1, 0x901]);
+        assert_eq!(words(&[]), []);
     }
 
     unsafe extern "C" fn right_record(before: u64, word: u64, range: *mut u8, length: usize) -> usize {

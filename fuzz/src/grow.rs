@@ -295,7 +295,7 @@ fn moving_word(random: &mut Random, watch: &Watch, mask: u64, fields: &[u64], be
         let word = next_word(random, mask, fields, before);
         let field = *random.pick(fields);
         let moved = word ^ bit_of(random, field);
-        let answers = (watch.clone().tick(word), watch.clone().tick(moved));
+        let answers = (watch.look(word), watch.look(moved));
         if matches!(answers, (Answer::Ok, Answer::Bad(_))) {
             return Some(moved);
         }
@@ -317,9 +317,8 @@ fn words(random: &mut Random, text: &[u8]) -> Vec<u64> {
     'ticks: while words.len() < long {
         for _ in 0..40 {
             let word = next_word(random, mask, &fields, before);
-            let mut next = watch.clone();
-            if next.tick(word) == Answer::Ok {
-                watch = next;
+            if watch.look(word) == Answer::Ok {
+                watch.take(word);
                 before = word;
                 words.push(word);
                 continue 'ticks;

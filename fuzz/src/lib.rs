@@ -1,6 +1,7 @@
 //! Random cases for the line watch, what they must show, and how a case that fails is made small and saved. The program beside it (`main.rs`) has the C
-//! entries; here they are parameters, so that the tests can put wrong ones in their place.
+//! entries; here they are parameters, so that the tests can put wrong ones in their place. Another (`bin/calls.rs`) puts looks and takes to a program.
 
+pub mod calls;
 pub mod compare;
 pub mod grow;
 pub mod limits;
@@ -9,7 +10,7 @@ pub mod random;
 pub mod save;
 pub mod shrink;
 
-/// A rule text and a trace.
+/// A rule text and a trace. For looks and takes (calls.rs), the bytes of the calls stand in the place of the trace.
 #[derive(Clone, Debug, PartialEq, Eq)]
 pub struct Case {
     pub text: Vec<u8>,

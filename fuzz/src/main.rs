@@ -18,7 +18,7 @@ fn fails(case: &Case) -> bool {
 
 fn report(seed: u64, case: Case) {
     let folder = format!("target/fuzz/{seed}");
-    save::save(Path::new(&folder), &shrink::shrink(case, fails)).expect("the case is saved");
+    save::save(Path::new(&folder), &shrink::shrink(case, 1, fails)).expect("the case is saved");
     println!("differs: seed {seed}, saved in {folder}");
 }
 

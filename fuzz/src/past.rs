@@ -1,6 +1,7 @@
 //! Texts around the literal `wire == past(wire)`: right ones of many forms, and ones with one fault, each with the number that refuses it and the token
 //! at fault. And what a case shows of the literal: the fields that it holds still, and whether a bad tick is one for moving them.
 
+use crate::compare::words;
 use crate::random::Random;
 use crate::Case;
 use second::{Answer, Watch};
@@ -274,14 +275,15 @@ pub fn moved(case: &Case) -> bool {
     };
     let held = fields(&case.text).into_iter().fold(0, |all, field| all | field);
     let mut watch = Watch::new(&program);
-    let (mut at, mut before) = (0, 0);
-    while let Ok(Some(read)) = second::record::read(&case.trace, at, before) {
-        let mut still = watch.clone();
-        match watch.tick(read.word) {
-            Answer::Ok => (at, before) = (read.end, read.word),
-            Answer::Bad(_) => return still.tick(before & held | read.word & !held) == Answer::Ok,
-            _ => return false,
+    let mut before = 0;
+    for word in words(&case.trace) {
+        match watch.look(word) {
+            Answer::Ok => (),
+            Answer::Bad(_) => return watch.look(before & held | word & !held) == Answer::Ok,
+            Answer::Refused(_) => return false,
         }
+        watch.take(word);
+        before = word;
     }
     false
 }

@@ -2,14 +2,15 @@
 
 use crate::Case;
 
-/// A case that fails and no longer does if any one byte more is left out. The case given must fail.
-pub fn shrink(mut case: Case, fails: impl Fn(&Case) -> bool) -> Case {
+/// A case that fails and no longer does if any one byte more of its text is left out, or one unit of its trace: so many bytes that stay together, 1 for a trace
+/// and 9 for calls. The case given must fail.
+pub fn shrink(mut case: Case, unit: usize, fails: impl Fn(&Case) -> bool) -> Case {
     loop {
         let before = case.text.len() + case.trace.len();
-        let mut part = case.text.len().max(case.trace.len());
+        let mut part = case.text.len().max(case.trace.len().div_ceil(unit));
         while part > 0 {
             leave_out(&mut case, part, |case| &mut case.text, &fails);
-            leave_out(&mut case, part, |case| &mut case.trace, &fails);
+            leave_out(&mut case, part * unit, |case| &mut case.trace, &fails);
             part /= 2;
         }
         if case.text.len() + case.trace.len() == before {
@@ -43,7 +44,7 @@ mod tests {
     fn small(text: &[u8], trace: &[u8], fails: impl Fn(&Case) -> bool) -> Case {
         let case = Case { text: text.to_vec(), trace: trace.to_vec() };
         assert!(fails(&case));
-        shrink(case, fails)
+        shrink(case, 1, fails)
     }
 
     fn count(bytes: &[u8], byte: u8) -> usize {
@@ -82,7 +83,20 @@ mod tests {
         let misplaced = |c: &Case| second::sheet(&c.text, &c.trace).starts_with(b"refused 3 ");
         let grown = (0..2000).map(|seed| grow::case(&mut Random::new(seed))).filter(misplaced).take(20);
         for case in grown {
-            assert_eq!(shrink(case, misplaced), Case { text: vec![], trace: vec![] });
+            assert_eq!(shrink(case, 1, misplaced), Case { text: vec![], trace: vec![] });
         }
+    }
+
+    /// Only whole units are left out, each that is not needed.
+    #[test]
+    fn bytes_of_a_unit_stay_together() {
+        let trace = [1, 2, 3].repeat(50);
+        let case = Case { text: b"text".to_vec(), trace: [trace.clone(), vec![7, 2, 7], trace, vec![7, 2, 7]].concat() };
+        let small = shrink(case, 3, |case| {
+            assert!(case.trace.chunks(3).all(|unit| unit == [1, 2, 3] || unit == [7, 2, 7]));
+            count(&case.trace, 7) >= 2 && case.trace.len() >= 9
+        });
+        assert_eq!((small.text.len(), small.trace.len(), count(&small.trace, 2)), (0, 9, 3));
+        assert!(count(&small.trace, 7) >= 2);
     }
 }

@@ -9,10 +9,11 @@
 //! | kind | strings behind the first | answer |
 //! |---|---|---|
 //! | S | rule text, trace | the sheet |
+//! | T | rule text, looks and takes in the form of `calls` | a line for each |
 
 use std::io::{self, BufRead, Read, Write};
 
-use crate::sheet;
+use crate::{answer_calls, sheet};
 
 /// A case: what is asked, and of what.
 #[derive(Clone, Debug, PartialEq, Eq)]
@@ -43,10 +44,12 @@ impl Case {
     }
 
     /// The answer; for a kind not known, or with other strings than its kind
-    /// has, an error that says so.
+    /// has, or with calls that cannot be read, an error that says so.
     pub fn answer(&self) -> io::Result<Vec<u8>> {
         match (self.kind, self.strings.as_slice()) {
             (b'S', [_, text, trace]) => Ok(sheet(text, trace)),
+            (b'T', [_, text, calls]) => answer_calls(text, calls)
+                .ok_or_else(|| invalid("a call is cut short, or neither look nor take")),
             (kind, strings) => Err(invalid(format!(
                 "no case of kind {} with {} strings is known",
                 kind.escape_ascii(),
@@ -171,5 +174,16 @@ mod tests {
         assert!(case(b'S', &[b"2", TEXT]).answer().is_err());
         assert!(case(b'S', &[b"2", TEXT, b"", b""]).answer().is_err());
         assert!(case(b'S', &[]).answer().is_err());
+        assert!(case(b'T', &[b"4", TEXT]).answer().is_err());
+        assert!(case(b'T', &[b"4", TEXT, b"", b""]).answer().is_err());
+    }
+
+    #[test]
+    fn calls_are_answered_if_they_can_be_read() {
+        let answer = |calls| case(b'T', &[b"4", TEXT, calls]).answer();
+        let expected = b"rows 1 letters 1\nlook ok\n";
+        assert_eq!(answer(b"L\x01\0\0\0\0\0\0\0").unwrap(), expected);
+        assert!(answer(b"L\x01\0\0\0\0\0\0").is_err());
+        assert!(answer(b"S\x01\0\0\0\0\0\0\0").is_err());
     }
 }

@@ -9,7 +9,9 @@
 //! 4. `shape` judges the limits and the shape rules (numbers 8 to 12),
 //! 5. `fit` moves branches of a monitor over one word,
 //! 6. `watch` keeps the branches and the stores from tick to tick,
-//! 7. `record` reads and writes wire records, `sheet` prints.
+//! 7. `record` reads and writes wire records, `sheet` prints what comes of
+//!    them, and `calls` what comes of single calls; `lines` is what both print
+//!    with.
 //!
 //! `cases`, `batch` and `stage` are for comparing: files of cases, cases from
 //! another program, and cases for another program.
@@ -18,8 +20,11 @@
 //! let text = b"input a; p -> a; monitor p;";
 //! let program = second::open(text).unwrap();
 //! let mut watch = second::Watch::new(&program);
-//! assert_eq!(watch.tick(1), second::Answer::Ok);
-//! assert_eq!(watch.tick(0), second::Answer::Bad(0));
+//! assert_eq!(watch.take(1), second::Answer::Ok);
+//! // A look tells what a take would answer, and changes nothing.
+//! assert_eq!(watch.look(0), second::Answer::Bad(0));
+//! assert_eq!(watch.take(1), second::Answer::Ok);
+//! assert_eq!(watch.take(0), second::Answer::Bad(0));
 //! ```
 
 pub mod batch;
@@ -28,10 +33,12 @@ pub mod record;
 pub mod refusal;
 pub mod stage;
 
+mod calls;
 mod expr;
 mod fit;
 mod graph;
 mod letter;
+mod lines;
 mod parse;
 mod set;
 mod shape;
@@ -39,6 +46,7 @@ mod sheet;
 mod token;
 mod watch;
 
+pub use calls::answer_calls;
 pub use refusal::{Place, Reason, Refusal};
 pub use shape::{open, Program};
 pub use sheet::sheet;

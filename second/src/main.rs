@@ -11,7 +11,7 @@ use second::stage::{self, Entry};
 
 const USAGE: &str = "usage: second sheet RULES TRACE
        second cases FILE...
-       second stage FILE [PROGRAM ARGUMENT...]
+       second stage [--kind K] FILE [PROGRAM ARGUMENT...]
        second --batch";
 
 /// How many bytes of a sheet are shown where it differs.
@@ -22,13 +22,15 @@ fn main() -> ExitCode {
     match arguments.as_slice() {
         [command, rules, trace] if command == "sheet" => print_sheet(rules, trace),
         [command, files @ ..] if command == "cases" && !files.is_empty() => check_files(files),
-        [command, file, program @ ..] if command == "stage" => check_stage(file, program),
+        [command, arguments @ ..] if command == "stage" => stage_command(arguments),
         [command] if command == "--batch" => answer_cases(),
-        _ => {
-            eprintln!("{USAGE}");
-            ExitCode::from(2)
-        }
+        _ => misunderstood(),
     }
+}
+
+fn misunderstood() -> ExitCode {
+    eprintln!("{USAGE}");
+    ExitCode::from(2)
 }
 
 /// Prints the sheet of two files. One that cannot be read counts as empty.
@@ -59,6 +61,8 @@ fn answer_cases() -> ExitCode {
 struct Tally {
     passed: usize,
     failed: usize,
+    /// What is said behind both numbers.
+    remark: String,
 }
 
 impl Tally {
@@ -78,8 +82,13 @@ impl Tally {
 
     /// Prints both numbers; they decide how the program ends.
     fn close(self) -> ExitCode {
-        println!("{} passed, {} failed", self.passed, self.failed);
-        if self.failed == 0 {
+        let Tally {
+            passed,
+            failed,
+            remark,
+        } = self;
+        println!("{passed} passed, {failed} failed{remark}");
+        if failed == 0 {
             ExitCode::SUCCESS
         } else {
             ExitCode::FAILURE
@@ -110,20 +119,49 @@ fn check_cases(name: &str, bytes: &[u8], tally: &mut Tally) {
     }
 }
 
-/// Checks all cases of a stage file: the answers given here, or those of
-/// another program if one is named.
-fn check_stage(file: &OsString, program: &[OsString]) -> ExitCode {
+/// Checks a stage file, all of it or the cases of one kind.
+fn stage_command(arguments: &[OsString]) -> ExitCode {
+    match arguments {
+        [option, kind, file, program @ ..] if option == "--kind" && kind.len() == 1 => {
+            check_stage(Some(kind.as_encoded_bytes()[0]), file, program)
+        }
+        [file, program @ ..] if file != "--kind" => check_stage(None, file, program),
+        _ => misunderstood(),
+    }
+}
+
+fn check_stage(kind: Option<u8>, file: &OsString, program: &[OsString]) -> ExitCode {
     let mut tally = Tally::default();
     let name = file.to_string_lossy();
     match std::fs::read(file).and_then(|bytes| stage::read(&bytes)) {
-        Ok(entries) if entries.is_empty() => tally.fail(format_args!("{name}: no cases")),
-        Ok(entries) => match program {
-            [] => check_own_answers(&entries, &mut tally),
-            [program, arguments @ ..] => check_program(program, arguments, &entries, &mut tally),
+        Ok(entries) => match chosen(kind, entries, &mut tally).as_slice() {
+            [] => tally.fail(format_args!("{name}: no cases")),
+            entries => check_entries(entries, program, &mut tally),
         },
         Err(error) => tally.fail(format_args!("{name}: {error}")),
     }
     tally.close()
+}
+
+/// All entries, or those of the kind that is named; the tally then says how
+/// many these are.
+fn chosen(kind: Option<u8>, entries: Vec<Entry>, tally: &mut Tally) -> Vec<Entry> {
+    let Some(kind) = kind else {
+        return entries;
+    };
+    let all = entries.len();
+    let chosen = stage::of_kind(kind, entries);
+    let (count, kind) = (chosen.len(), kind.escape_ascii());
+    tally.remark = format!("; {count} of {all} cases are of kind {kind}");
+    chosen
+}
+
+/// Checks the answers given here, or those of another program if one is named.
+fn check_entries(entries: &[Entry], program: &[OsString], tally: &mut Tally) {
+    match program {
+        [] => check_own_answers(entries, tally),
+        [program, arguments @ ..] => check_program(program, arguments, entries, tally),
+    }
 }
 
 fn check_own_answers(entries: &[Entry], tally: &mut Tally) {

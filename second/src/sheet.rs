@@ -1,36 +1,17 @@
 //! The printed sheet: a rule text run over a trace.
 
-use std::io::Write;
-
+use crate::lines::{lines_of, Lines};
 use crate::record;
 use crate::refusal::Refusal;
-use crate::shape::{open, Program};
+use crate::shape::Program;
 use crate::watch::{Answer, Watch};
 
 /// The whole sheet of a rule text and a trace of records.
 pub fn sheet(text: &[u8], trace: &[u8]) -> Vec<u8> {
-    let mut lines = Lines(Vec::new());
-    match open(text) {
-        Ok(program) => run(&program, trace, &mut lines),
-        Err(refusal) => lines.put(refusal),
-    }
-    lines.0
-}
-
-struct Lines(Vec<u8>);
-
-impl Lines {
-    fn put(&mut self, line: impl std::fmt::Display) {
-        writeln!(self.0, "{line}").expect("a vector takes every write");
-    }
+    lines_of(text, |program, lines| run(program, trace, lines))
 }
 
 fn run(program: &Program, trace: &[u8], lines: &mut Lines) {
-    lines.put(format_args!(
-        "rows {} letters {}",
-        program.rows(),
-        program.letters()
-    ));
     let mut watch = Watch::new(program);
     let mut begin = 0;
     let mut word = 0;
@@ -42,7 +23,7 @@ fn run(program: &Program, trace: &[u8], lines: &mut Lines) {
             // The record reader names a byte, the sheet the tick.
             Err(refusal) => return lines.put(Refusal::at_tick(refusal.reason, tick)),
         }
-        match watch.tick(word) {
+        match watch.take(word) {
             Answer::Ok => lines.put(format_args!("{tick} {word:016x} ok")),
             Answer::Bad(monitor) => {
                 return lines.put(format_args!("{tick} {word:016x} bad {monitor}"))

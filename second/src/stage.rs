@@ -48,7 +48,13 @@ pub fn read(file: &[u8]) -> io::Result<Vec<Entry>> {
     Ok(entries)
 }
 
-/// What a program said when all cases of a file were put to it.
+/// The entries whose case is of this kind, in their order.
+pub fn of_kind(kind: u8, entries: Vec<Entry>) -> Vec<Entry> {
+    let is_one = |entry: &Entry| entry.case.kind == kind;
+    entries.into_iter().filter(is_one).collect()
+}
+
+/// What a program said when the cases of some entries were put to it.
 #[derive(Clone, Debug, PartialEq, Eq)]
 pub struct Said {
     /// Its answers in order, no more than there are cases.
@@ -138,8 +144,13 @@ mod tests {
     }
 
     fn entry() -> Vec<u8> {
-        let case = [b"S\x03\0\0\0".to_vec(), strings(&[b"2", b"text", b"trace"])].concat();
-        [strings(&[b"name"]), case, strings(&[b"answer"])].concat()
+        entry_of(b'S', b"name")
+    }
+
+    fn entry_of(kind: u8, name: &[u8]) -> Vec<u8> {
+        let count = vec![kind, 3, 0, 0, 0];
+        let case = [count, strings(&[b"2", b"text", b"trace"])].concat();
+        [strings(&[name]), case, strings(&[b"answer"])].concat()
     }
 
     #[test]
@@ -151,6 +162,23 @@ mod tests {
         assert_eq!(entries[1].case.strings[2], b"trace");
         assert_eq!(entries[1].answer, b"answer");
         assert_eq!(read(b"").unwrap(), []);
+    }
+
+    #[test]
+    fn entries_of_a_kind_keep_their_order() {
+        let file = [
+            entry_of(b'S', b"one"),
+            entry_of(b'T', b"two"),
+            entry_of(b'S', b"three"),
+        ];
+        let entries = read(&file.concat()).unwrap();
+        let names = |kind| -> Vec<String> {
+            let chosen = of_kind(kind, entries.clone());
+            chosen.into_iter().map(|entry| entry.name).collect()
+        };
+        assert_eq!(names(b'S'), ["one", "three"]);
+        assert_eq!(names(b'T'), ["two"]);
+        assert!(names(b's').is_empty());
     }
 
     #[test]

@@ -1,5 +1,10 @@
 //! The watch: branches, stores, the last word and the tick count, carried from
 //! tick to tick.
+//!
+//! A look judges a word; a take judges it by the same look and then moves the
+//! watch over it. So the two never answer differently.
+
+use std::cell::RefCell;
 
 use crate::fit::{Branch, Crossing};
 use crate::letter::Moment;
@@ -8,7 +13,7 @@ use crate::refusal::{Reason, Refusal};
 use crate::set::Set;
 use crate::shape::Program;
 
-/// What a tick answers.
+/// What a look or a take answers.
 #[derive(Clone, Copy, Debug, PartialEq, Eq)]
 pub enum Answer {
     Ok,
@@ -23,12 +28,20 @@ pub struct Watch<'p> {
     program: &'p Program,
     ticks: u32,
     stopped: bool,
-    /// The word of the last ok tick.
+    /// The word of the last ok take.
     before: u64,
     stores: Vec<u64>,
     /// For each monitor, the branches that fit all words so far.
     branches: Vec<Vec<Branch>>,
-    /// Room to work in: the branches after the tick under way.
+    /// Kept so that no look has to make room of its own. A take goes on with
+    /// what its look has left there; a later look begins anew.
+    room: RefCell<Room>,
+}
+
+/// Room to work in.
+#[derive(Clone)]
+struct Room {
+    /// For each monitor, the branches after the word looked at.
     next: Vec<Vec<Branch>>,
     crossings: Vec<Crossing>,
 }
@@ -43,17 +56,19 @@ impl<'p> Watch<'p> {
             before: 0,
             stores: program.stores.clone(),
             branches: vec![vec![Branch::before_tick_0()]; monitors],
-            next: vec![Vec::new(); monitors],
-            crossings: Vec::new(),
+            room: RefCell::new(Room {
+                next: vec![Vec::new(); monitors],
+                crossings: Vec::new(),
+            }),
         }
     }
 
-    /// How many ticks were ok.
+    /// How many takes were ok.
     pub fn ticks(&self) -> u32 {
         self.ticks
     }
 
-    /// The word of the last tick that was ok; zero before tick 0.
+    /// The word of the last take that was ok; zero before tick 0.
     pub fn word_before(&self) -> u64 {
         self.before
     }
@@ -68,21 +83,36 @@ impl<'p> Watch<'p> {
         self.branches.iter().map(Vec::len).max().unwrap_or(0)
     }
 
-    /// Takes one word. A bad tick stops the watch and leaves it otherwise as
-    /// it was; a refusal changes nothing.
-    pub fn tick(&mut self, word: u64) -> Answer {
+    /// Says what a take of the word would answer now. The watch stays as it
+    /// is, whatever the answer.
+    pub fn look(&self, word: u64) -> Answer {
         if let Some(reason) = self.refusal(word) {
             return Answer::Refused(Refusal::at_tick(reason, self.ticks));
         }
-        if let Some(monitor) = self.cross(word) {
-            self.stopped = true;
-            return Answer::Bad(monitor);
+        match self.cross(word) {
+            Some(monitor) => Answer::Bad(monitor),
+            None => Answer::Ok,
         }
-        std::mem::swap(&mut self.branches, &mut self.next);
+    }
+
+    /// Takes the word. If it is bad the watch stops and is otherwise as it
+    /// was; a refusal changes nothing.
+    pub fn take(&mut self, word: u64) -> Answer {
+        let answer = self.look(word);
+        match answer {
+            Answer::Ok => self.move_over(word),
+            Answer::Bad(_) => self.stopped = true,
+            Answer::Refused(_) => (),
+        }
+        answer
+    }
+
+    /// Moves the watch over the word it has just found to be ok.
+    fn move_over(&mut self, word: u64) {
+        std::mem::swap(&mut self.branches, &mut self.room.get_mut().next);
         self.write_stores(word);
         self.before = word;
         self.ticks += 1;
-        Answer::Ok
     }
 
     fn refusal(&self, word: u64) -> Option<Reason> {
@@ -102,19 +132,20 @@ impl<'p> Watch<'p> {
         word.checked_shr(self.program.wires()).unwrap_or(0) != 0
     }
 
-    /// Moves all branches over the word into `next`; gives the lowest monitor
-    /// left without a branch.
-    fn cross(&mut self, word: u64) -> Option<usize> {
+    /// Finds all branches after the word and leaves them in the room; gives
+    /// the lowest monitor left without a branch.
+    fn cross(&self, word: u64) -> Option<usize> {
+        let Room { next, crossings } = &mut *self.room.borrow_mut();
         let moment = Moment {
             word,
             before: self.before,
             stores: &self.stores,
         };
         for (number, monitor) in self.program.monitors.iter().enumerate() {
-            let found = &mut self.next[number];
+            let found = &mut next[number];
             found.clear();
             for branch in &self.branches[number] {
-                monitor.cross(*branch, moment, &mut self.crossings, found);
+                monitor.cross(*branch, moment, crossings, found);
             }
             if found.is_empty() {
                 return Some(number);

@@ -577,6 +577,7 @@ fn run(
     let mut state = State::first(monitors.len());
     let mut words = Vec::new();
     for _ in 0..10 {
+        look_at_all(&watch, &state, monitors, text, &words);
         // Mostly a word that fits, if there is one.
         let mut word = numbers.below(WORDS as usize) as u64;
         if numbers.below(16) != 0 {
@@ -588,7 +589,7 @@ fn run(
             }
         }
         words.push(word);
-        let answer = watch.tick(word);
+        let answer = watch.take(word);
         match state.after(monitors, word) {
             Ok(next) => {
                 assert_eq!(answer, Answer::Ok, "{text} {words:?}");
@@ -613,6 +614,17 @@ fn run(
                 return;
             }
         }
+    }
+}
+
+/// A look at any word says what becomes of it.
+fn look_at_all(watch: &Watch, state: &State, monitors: &[Monitor], text: &str, words: &[u64]) {
+    for word in 0..WORDS {
+        let expected = match state.after(monitors, word) {
+            Ok(_) => Answer::Ok,
+            Err(monitor) => Answer::Bad(monitor),
+        };
+        assert_eq!(watch.look(word), expected, "{text} {words:?} {word}");
     }
 }
 

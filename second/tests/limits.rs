@@ -200,7 +200,7 @@ fn ticks_1_000_000_and_one_more() {
     let program = second::open(b"input a; p -> a; monitor p;").ok().unwrap();
     let mut watch = Watch::new(&program);
     for tick in 0..1_000_000 {
-        assert_eq!(watch.tick(1), Answer::Ok, "tick {tick}");
+        assert_eq!(watch.take(1), Answer::Ok, "tick {tick}");
     }
     assert_eq!(watch.ticks(), 1_000_000);
     let full = Answer::Refused(Refusal {
@@ -209,7 +209,7 @@ fn ticks_1_000_000_and_one_more() {
     });
     // Full comes before stray, and even a word that does not fit is not judged.
     for word in [1, 0, 2] {
-        assert_eq!(watch.tick(word), full);
+        assert_eq!(watch.take(word), full);
     }
 }
 
@@ -225,7 +225,7 @@ fn sheets_of_1_000_000_ticks_and_one_more() {
     assert_eq!(end(&trace), "999999 0000000000000000 ok/clean 1000000");
     trace.push(0);
     assert_eq!(end(&trace), "999999 0000000000000000 ok/refused 17 1000000");
-    // A record that cannot be read gives no word to tick with.
+    // A record that cannot be read gives no word to take.
     *trace.last_mut().unwrap() = 1;
     assert_eq!(end(&trace), "999999 0000000000000000 ok/refused 13 1000000");
 }
@@ -240,12 +240,12 @@ fn a_stopped_watch_says_so_before_all_else() {
             place: Place::Tick(tick),
         })
     };
-    assert_eq!(watch.tick(2), refused(Reason::Stray, 0));
-    assert_eq!(watch.tick(1), Answer::Ok);
-    assert_eq!(watch.tick(3), refused(Reason::Stray, 1));
-    assert_eq!(watch.tick(0), Answer::Bad(0));
+    assert_eq!(watch.take(2), refused(Reason::Stray, 0));
+    assert_eq!(watch.take(1), Answer::Ok);
+    assert_eq!(watch.take(3), refused(Reason::Stray, 1));
+    assert_eq!(watch.take(0), Answer::Bad(0));
     for word in [1, 0, 2] {
-        assert_eq!(watch.tick(word), refused(Reason::Stopped, 1));
+        assert_eq!(watch.take(word), refused(Reason::Stopped, 1));
     }
 }
 
@@ -254,8 +254,8 @@ fn a_bad_tick_changes_neither_stores_nor_count() {
     let text = b"input a; internal s = 0; p -> a {s <- 1;} || !a {s <- 0;}; q -> !a; monitor p, q;";
     let program = second::open(text).ok().unwrap();
     let mut watch = Watch::new(&program);
-    assert_eq!(watch.tick(0), Answer::Ok);
-    assert_eq!(watch.tick(1), Answer::Bad(1));
+    assert_eq!(watch.take(0), Answer::Ok);
+    assert_eq!(watch.take(1), Answer::Bad(1));
     assert_eq!((watch.stores(), watch.ticks()), ([0].as_slice(), 1));
 }
 

@@ -11,6 +11,10 @@ const TEXT: &[u8] = b"input a; p -> a; monitor p;";
 const SHEET: &[u8] = b"rows 1 letters 1\n0 0000000000000001 ok\nclean 1\n";
 const REFUSED: &[u8] = b"refused 3 0\n";
 
+/// A look at 0, a take of 1, and what they answer.
+const CALLS: &[u8] = b"L\0\0\0\0\0\0\0\0T\x01\0\0\0\0\0\0\0";
+const ANSWERS: &[u8] = b"rows 1 letters 1\nlook bad 0\ntake ok\n";
+
 /// The bytes of a case.
 fn case(kind: u8, strings: &[&[u8]]) -> Vec<u8> {
     let strings = strings.iter().map(|string| string.to_vec()).collect();
@@ -25,6 +29,10 @@ fn good_case() -> Vec<u8> {
 
 fn refused_case() -> Vec<u8> {
     case(b'S', &[b"2", b"", b""])
+}
+
+fn calls_case() -> Vec<u8> {
+    case(b'T', &[b"4", TEXT, CALLS])
 }
 
 /// The bytes of a string.
@@ -45,6 +53,14 @@ fn two_entries() -> Vec<u8> {
     [good, refused].concat()
 }
 
+/// A good case, one of calls, and a refused case.
+fn two_kinds() -> Vec<u8> {
+    let good = entry("good", good_case(), SHEET);
+    let calls = entry("calls", calls_case(), ANSWERS);
+    let refused = entry("refused", refused_case(), REFUSED);
+    [good, calls, refused].concat()
+}
+
 /// Writes a file for one test; each test needs names of its own.
 fn file(name: &str, bytes: &[u8]) -> PathBuf {
     let path = PathBuf::from(env!("CARGO_TARGET_TMPDIR")).join(name);
@@ -62,9 +78,20 @@ fn answered(name: &str, cases: &[u8]) -> Output {
 /// What `second stage` prints of a file, and its exit status; `program` is put
 /// behind the file.
 fn staged(file: &PathBuf, program: &[&str]) -> (String, Option<i32>) {
+    run(Command::new(SECOND).arg("stage").arg(file).args(program))
+}
+
+/// The same with the cases of one kind alone.
+fn staged_kind(kind: &str, file: &PathBuf, program: &[&str]) -> (String, Option<i32>) {
     let mut command = Command::new(SECOND);
-    let output = command.arg("stage").arg(file).args(program).output();
-    let output = output.unwrap();
+    run(command
+        .args(["stage", "--kind", kind])
+        .arg(file)
+        .args(program))
+}
+
+fn run(command: &mut Command) -> (String, Option<i32>) {
+    let output = command.output().unwrap();
     let printed = String::from_utf8(output.stdout).unwrap();
     (printed, output.status.code())
 }
@@ -110,6 +137,33 @@ fn a_past_literal_is_answered() {
         string(run),
     ];
     assert_eq!(output.stdout, expected.concat());
+}
+
+#[test]
+fn calls_are_answered() {
+    let refused = case(b'T', &[b"4", b"", CALLS]);
+    let cases = [calls_case(), good_case(), refused].concat();
+    let output = answered("calls", &cases);
+    let expected = [string(ANSWERS), string(SHEET), string(REFUSED)].concat();
+    assert_eq!(output.stdout, expected);
+    assert_eq!((output.status.code(), output.stderr.len()), (Some(0), 0));
+}
+
+#[test]
+fn calls_that_cannot_be_read_end_the_program() {
+    let cut = &CALLS[..17];
+    let odd = [CALLS, b"?\0\0\0\0\0\0\0\0"].concat();
+    for (name, calls) in [("calls cut", cut), ("calls odd", &odd)] {
+        let bad = case(b'T', &[b"4", TEXT, calls]);
+        let output = answered(name, &[calls_case(), bad, good_case()].concat());
+        assert_eq!(output.stdout, string(ANSWERS));
+        assert_eq!(output.status.code(), Some(1));
+        let said = String::from_utf8_lossy(&output.stderr).into_owned();
+        assert_eq!(
+            said,
+            "second: a call is cut short, or neither look nor take\n"
+        );
+    }
 }
 
 #[test]
@@ -187,6 +241,59 @@ fn a_file_without_cases_or_cut_short_fails() {
     assert_eq!(staged(&missing, &[]).1, Some(1));
 }
 
+// Checking the cases of one kind.
+
+#[test]
+fn all_kinds_are_checked_if_none_is_named() {
+    let stage = file("kinds", &two_kinds());
+    for program in [&[][..], &[SECOND, "--batch"]] {
+        let printed = staged(&stage, program);
+        assert_eq!(printed, ("3 passed, 0 failed\n".to_string(), Some(0)));
+    }
+}
+
+#[test]
+fn the_cases_of_a_kind_are_counted() {
+    let stage = file("kinds counted", &two_kinds());
+    for program in [&[][..], &[SECOND, "--batch"]] {
+        let (printed, status) = staged_kind("S", &stage, program);
+        let expected = "2 passed, 0 failed; 2 of 3 cases are of kind S\n";
+        assert_eq!((printed.as_str(), status), (expected, Some(0)));
+        let (printed, status) = staged_kind("T", &stage, program);
+        let expected = "1 passed, 0 failed; 1 of 3 cases are of kind T\n";
+        assert_eq!((printed.as_str(), status), (expected, Some(0)));
+    }
+}
+
+#[test]
+fn only_the_cases_of_the_kind_are_put_to_the_program() {
+    let said = file("calls said", &string(ANSWERS));
+    let program = ["cat", said.to_str().unwrap()];
+    let stage = file("kinds put", &two_kinds());
+    let (printed, status) = staged_kind("T", &stage, &program);
+    let expected = "1 passed, 0 failed; 1 of 3 cases are of kind T\n";
+    assert_eq!((printed.as_str(), status), (expected, Some(0)));
+    let (printed, status) = staged_kind("S", &stage, &program);
+    assert_eq!(
+        printed.lines().last(),
+        Some("0 passed, 2 failed; 2 of 3 cases are of kind S")
+    );
+    assert_eq!(status, Some(1));
+}
+
+#[test]
+fn a_file_without_cases_of_the_kind_fails() {
+    let stage = file("kinds lacking", &two_entries());
+    for program in [&[][..], &[SECOND, "--batch"]] {
+        let (printed, status) = staged_kind("T", &stage, program);
+        let expected = format!(
+            "{}: no cases\n0 passed, 1 failed; 0 of 2 cases are of kind T\n",
+            stage.display()
+        );
+        assert_eq!((printed, status), (expected, Some(1)));
+    }
+}
+
 // Checking another program.
 
 #[test]
@@ -262,7 +369,14 @@ fn a_program_that_cannot_be_run_fails() {
 
 #[test]
 fn arguments_missing_or_too_many_are_not_understood() {
-    for arguments in [&["stage"][..], &["--batch", "more"]] {
+    for arguments in [
+        &["stage"][..],
+        &["stage", "--kind"],
+        &["stage", "--kind", "S"],
+        &["stage", "--kind", "", "file"],
+        &["stage", "--kind", "ST", "file"],
+        &["--batch", "more"],
+    ] {
         let output = Command::new(SECOND).args(arguments).output().unwrap();
         assert_eq!((output.status.code(), output.stdout.len()), (Some(2), 0));
         assert!(!output.stderr.is_empty());

@@ -15,7 +15,7 @@ fn proved(text: &[u8], records: &[u8], sheet: &mut [u8]) -> usize {
     unsafe { linewatch_sheet(text.as_ptr(), text.len(), records.as_ptr(), records.len(), sheet.as_mut_ptr(), sheet.len()) }
 }
 
-/// Words that keep the rules: of those that `drawn` makes of random bits and the word before, each tried on a copy of the watch.
+/// Words that keep the rules: of those that `drawn` makes of random bits and the word before, the ones that a look finds ok.
 fn words(text: &[u8], drawn: impl Fn(u64, u64) -> u64) -> Vec<u64> {
     let program = second::open(text).expect("the text is accepted");
     let mask = if program.wires() == 64 { u64::MAX } else { (1 << program.wires()) - 1 };
@@ -28,9 +28,8 @@ fn words(text: &[u8], drawn: impl Fn(u64, u64) -> u64) -> Vec<u64> {
         seed ^= seed >> 7;
         seed ^= seed << 17;
         let word = drawn(seed >> 3, words.last().copied().unwrap_or(0)) & mask;
-        let mut next = watch.clone();
-        if next.tick(word) == Answer::Ok {
-            watch = next;
+        if watch.look(word) == Answer::Ok {
+            watch.take(word);
             words.push(word);
             tries = 0;
         } else {

@@ -7,7 +7,7 @@ use Prim.Native.Nat.{ℕ, zero, suc, _+_, _^_, _≤_, _<_}
 use native.Mathlib.Omega.{arith}
 use lib.Dec.{T, T-not, not-T, leb→le, le→leb, nleb→lt}
 use native.Mathlib.Decide.{decLt, ℕ-discrete}
-use lib.ListN.{length, take, getD}
+use lib.ListN.{length, take as upTo, getD}
 use lib.Seq.{take-suc, take-all}
 use Rattle.lexer.proofs.Bools.{or-true, or-false}
 use Rattle.meaning.specs.Lists.{any, count, only}
@@ -15,7 +15,7 @@ use Rattle.meaning.specs.Expression.{Exp}
 use Rattle.meaning.specs.ShapeTests.{AllRead}
 use Rattle.meaning.specs.Fit.{Verdict, ok as clean, bad as broken, History, start, onward, history, judged}
 use Rattle.meaning.specs.Positions.{opened, answer, moved, machineReplies}
-use Rattle.meaning.specs.Calls.{Reply, ok, bad, refused, replyOf, mostTicks, isFull, isStray, State, opening, reply, after, repliesFrom, stateFrom, replies, standing, isOk, isBad, isRefused, judgedWords, Rightly, AllRightly}
+use Rattle.meaning.specs.Calls.{Call, look, take, wordOf, Reply, ok, bad, refused, replyOf, mostTicks, isFull, isStray, State, opening, reply, after, afterCall, repliesFrom, stateFrom, replies, standing, isOk, isBad, isRefused, taken, takenReplies, judgedWords, Rightly, AllRightly}
 use Rattle.meaning.proofs.ListLaws.{carry-append, clash}
 use Rattle.meaning.proofs.Watch.{AllAccepted, Tracks, opened-tracks, same-verdict, same-move}
 use Rattle.meaning.proofs.Accept.{accept-all}
@@ -60,7 +60,7 @@ chosen-ok false false true v p = clash (cc)
 chosen-ok false false false clean p = (tt, tt, refl)
 chosen-ok false false false (broken m) p = clash (cc)
 
--- ---- one call more at the end of the list ----
+-- ---- one take more at the end of the list ----
 
 any-snoc : (rs : List Reply) (r : Reply) → any isBad (rs ++ r ∷ []) ≡ any isBad rs || isBad r
 any-snoc [] ok = refl
@@ -89,10 +89,10 @@ length-snoc [] (b ∷ ys) x y p = absurd (omega arith)
 length-snoc (a ∷ xs) [] x y p = absurd (omega arith)
 length-snoc (a ∷ xs) (b ∷ ys) x y p = ap suc (length-snoc xs ys x y (omega arith))
 
--- ---- the state holds what the sentence asks of the earlier calls ----
+-- ---- the state holds what the sentence asks of the earlier takes ----
 
 module _ (ms : List Exp) (initial : List ℕ) (wires : ℕ) where
-  -- the state after calls with the words ws and the replies rs
+  -- the state after takes of the words ws with the replies rs
   record Kept (ws : List ℕ) (rs : List Reply) (s : State History) : Type 0 where
     pub stopped-is : s .stopped ≡ any isBad rs
     pub oks-is : s .oks ≡ count isOk rs
@@ -177,25 +177,27 @@ module _ (ms : List Exp) (initial : List ℕ) (wires : ℕ) where
         same : any isBad rs ≡ any isBad (rs ++ refused n q ∷ [])
         same = sym (any-snoc rs (refused n q) ∙ or-false (any isBad rs))
 
-  -- the replies to more calls
-  rightly-from : (vs : List ℕ) (s : State History) (ws : List ℕ) (rs : List Reply) → Kept ws rs s → (n : ℕ) → n < length vs
-      → Rightly ms initial wires (ws ++ take n vs) (rs ++ take n (repliesFrom (judged ms) (onward ms) wires s vs)) (getD vs n 0) (getD (repliesFrom (judged ms) (onward ms) wires s vs) n ok)
+  -- the replies to more calls: a look finds what the takes before it left
+  rightly-from : (cs : List Call) (s : State History) (ws : List ℕ) (rs : List Reply) → Kept ws rs s → (n : ℕ) → n < length cs
+      → Rightly ms initial wires (ws ++ taken (upTo n cs)) (rs ++ takenReplies (upTo n cs) (upTo n (repliesFrom (judged ms) (onward ms) wires s cs)))
+      (wordOf (getD cs n (take 0))) (getD (repliesFrom (judged ms) (onward ms) wires s cs) n ok)
   unfolding repliesFrom
   rightly-from [] s ws rs k n lt = absurd (omega arith)
-  rightly-from (v ∷ vs) s ws rs k zero lt = rw (append-nil ws, append-nil rs) (rightly ws rs s k v)
-  rightly-from (v ∷ vs) s ws rs k (suc n) lt =
-      rw (← append-assoc ws (v ∷ []) (take n vs), ← append-assoc rs (r ∷ []) (take n (repliesFrom (judged ms) (onward ms) wires t vs)))
-      (rightly-from vs t (ws ++ v ∷ []) (rs ++ r ∷ []) (keep ws rs s k v r refl) n (omega arith))
+  rightly-from (c ∷ cs) s ws rs k zero lt = rw (append-nil ws, append-nil rs) (rightly ws rs s k (wordOf c))
+  rightly-from (look w ∷ cs) s ws rs k (suc n) lt = rightly-from cs s ws rs k n (omega arith)
+  rightly-from (take w ∷ cs) s ws rs k (suc n) lt =
+      rw (← append-assoc ws (w ∷ []) (taken (upTo n cs)), ← append-assoc rs (r ∷ []) (takenReplies (upTo n cs) (upTo n (repliesFrom (judged ms) (onward ms) wires t cs))))
+      (rightly-from cs t (ws ++ w ∷ []) (rs ++ r ∷ []) (keep ws rs s k w r refl) n (omega arith))
     where
       r : Reply
-      r = reply (judged ms) wires s v
+      r = reply (judged ms) wires s w
 
       t : State History
-      t = after (onward ms) s v r
+      t = after (onward ms) s w r
 
   -- Every call is answered as W3 to W6 say.
-  pub replies-rightly : (ws : List ℕ) → AllRightly ms initial wires ws (replies ms initial wires ws)
-  replies-rightly ws = rightly-from ws (opening (start initial)) [] []
+  pub replies-rightly : (cs : List Call) → AllRightly ms initial wires cs (replies ms initial wires cs)
+  replies-rightly cs = rightly-from cs (opening (start initial)) [] []
       (record { stopped-is = refl; oks-is = refl; oks-most = omega arith; inner-is = λ t. refl; as-long = refl })
 
 -- ---- and in no other way ----
@@ -219,28 +221,31 @@ module _ (ms : List Exp) (initial : List ℕ) (wires : ℕ) where
             | no h ↦ open-call t h
           ]
 
-  one-take : (ws : List ℕ) (rs qs : List Reply) → length rs ≡ length ws → length qs ≡ length ws
-      → AllRightly ms initial wires ws rs → AllRightly ms initial wires ws qs → (n : ℕ) → n ≤ length ws → take n rs ≡ take n qs
-  one-take ws rs qs a b x y zero le = refl
-  one-take ws rs qs a b x y (suc n) le =
-      let same : take n rs ≡ take n qs = one-take ws rs qs a b x y n (omega arith) in
+  -- the replies up to each call
+  one-way : (cs : List Call) (rs qs : List Reply) → length rs ≡ length cs → length qs ≡ length cs
+      → AllRightly ms initial wires cs rs → AllRightly ms initial wires cs qs → (n : ℕ) → n ≤ length cs → upTo n rs ≡ upTo n qs
+  one-way cs rs qs a b x y zero le = refl
+  one-way cs rs qs a b x y (suc n) le =
+      let same : upTo n rs ≡ upTo n qs = one-way cs rs qs a b x y n (omega arith) in
+      let w : ℕ = wordOf (getD cs n (take 0)) in
       take-suc rs n ok (omega arith)
       ∙ ap₂ (λ l r. l ++ r ∷ []) same
-      (one-reply (take n ws) (take n qs) (getD ws n 0) _ _ (subst (λ l. Rightly ms initial wires (take n ws) l (getD ws n 0) (getD rs n ok)) same (x n (omega arith))) (y n (omega arith)))
+      (one-reply (taken (upTo n cs)) (takenReplies (upTo n cs) (upTo n qs)) w _ _
+      (subst (λ l. Rightly ms initial wires (taken (upTo n cs)) (takenReplies (upTo n cs) l) w (getD rs n ok)) same (x n (omega arith))) (y n (omega arith)))
       ∙ sym (take-suc qs n ok (omega arith))
 
-  pub length-replies : (s : State History) (ws : List ℕ) → length (repliesFrom (judged ms) (onward ms) wires s ws) ≡ length ws
+  pub length-replies : (s : State History) (cs : List Call) → length (repliesFrom (judged ms) (onward ms) wires s cs) ≡ length cs
   unfolding repliesFrom
   length-replies s [] = refl
-  length-replies s (w ∷ ws) = ap suc (length-replies (after (onward ms) s w (reply (judged ms) wires s w)) ws)
+  length-replies s (c ∷ cs) = ap suc (length-replies (afterCall (onward ms) s c (reply (judged ms) wires s (wordOf c))) cs)
 
-  -- W10: "Text and words alone fix all answers"
-  pub replies-only : (ws : List ℕ) (rs : List Reply) → length rs ≡ length ws → AllRightly ms initial wires ws rs → rs ≡ replies ms initial wires ws
-  replies-only ws rs p x =
-      let q : length (replies ms initial wires ws) ≡ length ws = length-replies (opening (start initial)) ws in
-      sym (take-all (length ws) rs (omega arith))
-      ∙ one-take ws rs (replies ms initial wires ws) p q x (replies-rightly ms initial wires ws) (length ws) (omega arith)
-      ∙ take-all (length ws) (replies ms initial wires ws) (omega arith)
+  -- W11: "Text and calls alone fix all answers"
+  pub replies-only : (cs : List Call) (rs : List Reply) → length rs ≡ length cs → AllRightly ms initial wires cs rs → rs ≡ replies ms initial wires cs
+  replies-only cs rs p x =
+      let q : length (replies ms initial wires cs) ≡ length cs = length-replies (opening (start initial)) cs in
+      sym (take-all (length cs) rs (omega arith))
+      ∙ one-way cs rs (replies ms initial wires cs) p q x (replies-rightly ms initial wires cs) (length cs) (omega arith)
+      ∙ take-all (length cs) (replies ms initial wires cs) (omega arith)
 
 -- ---- two that judge alike reply alike ----
 
@@ -263,33 +268,37 @@ module _ {S R : Type 0} (judge : S → ℕ → Verdict) (move : S → ℕ → S)
     left-alike (bad m) p = (a .0, a .1, refl)
     left-alike (refused n q) p = a
 
-  pub same-replies : (ws : List ℕ) (x : State S) (y : State R) → Alike Like x y → repliesFrom judge move wires x ws ≡ repliesFrom judge′ move′ wires y ws
+    call-alike : (c : Call) → wordOf c ≡ w → Alike Like (afterCall move x c (reply judge′ wires y w)) (afterCall move′ y c (reply judge′ wires y w))
+    call-alike (look u) e = a
+    call-alike (take u) e = subst (λ n. Alike Like (after move x n (reply judge′ wires y w)) (after move′ y n (reply judge′ wires y w))) (sym e) (left-alike (reply judge′ wires y w) refl)
+
+  pub same-replies : (cs : List Call) (x : State S) (y : State R) → Alike Like x y → repliesFrom judge move wires x cs ≡ repliesFrom judge′ move′ wires y cs
   unfolding repliesFrom
   same-replies [] x y a = refl
-  same-replies (w ∷ ws) x y a =
-      ap (λ k. k ∷ repliesFrom judge move wires (after move x w k) ws) (same-reply x y a w)
-      ∙ ap (λ l. reply judge′ wires y w ∷ l) (same-replies ws _ _ (left-alike x y a w (reply judge′ wires y w) refl))
+  same-replies (c ∷ cs) x y a =
+      ap (λ k. k ∷ repliesFrom judge move wires (afterCall move x c k) cs) (same-reply x y a (wordOf c))
+      ∙ ap (λ l. reply judge′ wires y (wordOf c) ∷ l) (same-replies cs _ _ (call-alike x y a (wordOf c) c refl))
 
-  pub same-states : (ws : List ℕ) (x : State S) (y : State R) → Alike Like x y → Alike Like (stateFrom judge move wires x ws) (stateFrom judge′ move′ wires y ws)
+  pub same-states : (cs : List Call) (x : State S) (y : State R) → Alike Like x y → Alike Like (stateFrom judge move wires x cs) (stateFrom judge′ move′ wires y cs)
   unfolding stateFrom
   same-states [] x y a = a
-  same-states (w ∷ ws) x y a =
-      subst (λ k. Alike Like (stateFrom judge move wires (after move x w k) ws) (stateFrom judge′ move′ wires (after move′ y w (reply judge′ wires y w)) ws))
-      (sym (same-reply x y a w)) (same-states ws _ _ (left-alike x y a w (reply judge′ wires y w) refl))
+  same-states (c ∷ cs) x y a =
+      subst (λ k. Alike Like (stateFrom judge move wires (afterCall move x c k) cs) (stateFrom judge′ move′ wires (afterCall move′ y c (reply judge′ wires y (wordOf c))) cs))
+      (sym (same-reply x y a (wordOf c))) (same-states cs _ _ (call-alike x y a (wordOf c) c refl))
 
 -- The machine over monitors that were not turned away replies to each list of calls as their meaning does, and stands then where that does.
-module _ (ms : List Exp) (read : AllRead ms) (initial : List ℕ) (wires : ℕ) (ws : List ℕ) where
+module _ (ms : List Exp) (read : AllRead ms) (initial : List ℕ) (wires : ℕ) (cs : List Call) where
   accepted : AllAccepted ms
   accepted = accept-all ms read
 
-  pub calls-right : machineReplies ms initial wires ws ≡ replies ms initial wires ws
+  pub calls-right : machineReplies ms initial wires cs ≡ replies ms initial wires cs
   calls-right =
       same-replies (answer ms) (moved ms) (judged ms) (onward ms) (λ v h. Tracks ms h v)
       (λ v h t w. same-verdict ms accepted h v t w) (λ v h t w p. same-move ms accepted h v t w p) wires
-      ws (opening (opened ms initial)) (opening (start initial)) (opened-tracks ms initial, refl, refl)
+      cs (opening (opened ms initial)) (opening (start initial)) (opened-tracks ms initial, refl, refl)
 
-  pub states-right : Alike (λ v h. Tracks ms h v) (stateFrom (answer ms) (moved ms) wires (opening (opened ms initial)) ws) (standing ms initial wires ws)
+  pub states-right : Alike (λ v h. Tracks ms h v) (stateFrom (answer ms) (moved ms) wires (opening (opened ms initial)) cs) (standing ms initial wires cs)
   states-right =
       same-states (answer ms) (moved ms) (judged ms) (onward ms) (λ v h. Tracks ms h v)
       (λ v h t w. same-verdict ms accepted h v t w) (λ v h t w p. same-move ms accepted h v t w p) wires
-      ws (opening (opened ms initial)) (opening (start initial)) (opened-tracks ms initial, refl, refl)
+      cs (opening (opened ms initial)) (opening (start initial)) (opened-tracks ms initial, refl, refl)

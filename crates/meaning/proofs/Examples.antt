@@ -11,13 +11,13 @@ use Rattle.meaning.specs.Shape.{nullable, first, last, follow, threads, 
 use Rattle.meaning.specs.ShapeTests.{agree, together, unsatisfiable, nullables, openEnds, ambiguous, shape}
 use Rattle.meaning.specs.Reading.{choose, onName, onNumber, ifName, ifNumber, unless, byKind, known, newName, notHere, atToken, literalName, behindOperand, behindLiteral, step, readOn, read}
 use Rattle.meaning.specs.Names.{declare}
-use Rattle.meaning.specs.Answers.{value}
+use Rattle.meaning.specs.Answers.{Answer, value, refused}
 use Rattle.meaning.specs.Opening.{Opened, counts, countsOf, asOpened, tooLong, misshapen, openProgram, openText}
-use Rattle.meaning.specs.Calls.{reply}
+use Rattle.meaning.specs.Calls.{Call, Reply, reply, repliesFrom, replies}
 use Rattle.trace.specs.Record.{digit, number, count, picked, recordOf, differs, changes, written, newByte, merged, idle, readRecord}
 use Rattle.trace.specs.Whole.{writeAll, writeTrace}
 use Rattle.meaning.specs.Sheet.{sheet, tickLines, cleanLine, countsLine, refusalLine, line, decimal, digitsIn, hexadecimal}
-use Rattle.meaning.specs.Examples.{Example, sample, examples}
+use Rattle.meaning.specs.Examples.{Example, sample, examples, Dialogue, dialogues}
 
 abbrev Holds : Example → Type 0
 Holds x = sheet (x .text) (writeTrace (x .words)) ≡ x .sheet
@@ -29,6 +29,19 @@ AllHold (x ∷ xs) = Holds x × AllHold xs
 pub examples-hold : AllHold examples
 unfolding choose onName onNumber ifName ifNumber unless byKind known newName notHere atToken isWhite isDigit isLetter run same lookup nameToken valueFrom numberToken signToken firstToken nextToken tokenAt tokensFrom tokensAt letters size rows renumbered meets merge rounds runs writeMet onward verdict nullable first last follow threads agree together unsatisfiable parts nullables openEnds ambiguous shape meetsWires declare storeTests literalName behindOperand behindLiteral step readOn read asOpened tooLong misshapen openProgram openText countsOf reply digit number count picked recordOf differs changes written newByte merged idle readRecord writeAll writeTrace sheet tickLines cleanLine countsLine refusalLine line decimal digitsIn hexadecimal
 examples-hold = ((refl, (refl, (refl, (refl, (refl, (refl, (refl, (refl, (refl, (refl, (refl, (refl, (refl, (refl, (refl, (refl, (refl, (refl, (refl, (refl, tt)))))))))))))))))))))
+
+-- looks and takes on the watch that a text opens, and none on one that it does not
+abbrev repliesTo : Answer Opened → List Call → List Reply
+repliesTo (value o) cs = replies (o .monitors) (o .initial) (o .wires) cs
+repliesTo (refused number place) cs = []
+
+abbrev AllAnswered : List Dialogue → Type 0
+AllAnswered [] = Unit {0}
+AllAnswered (x ∷ xs) = (repliesTo (openText (x .text)) (x .calls) ≡ x .replies) × AllAnswered xs
+
+pub dialogues-hold : AllAnswered dialogues
+unfolding choose onName onNumber ifName ifNumber unless byKind known newName notHere atToken isWhite isDigit isLetter run same lookup nameToken valueFrom numberToken signToken firstToken nextToken tokenAt tokensFrom tokensAt letters size rows renumbered meets merge rounds runs writeMet onward verdict nullable first last follow threads agree together unsatisfiable parts nullables openEnds ambiguous shape meetsWires declare storeTests literalName behindOperand behindLiteral step readOn read asOpened tooLong misshapen openProgram openText reply repliesFrom
+dialogues-hold = (refl, (refl, tt))
 
 -- the sample's trace is the one that the customer's specification prints
 pub sample-trace : writeTrace (sample .words) ≡ 1 ∷ 1 ∷ 1 ∷ 0 ∷ 0 ∷ []

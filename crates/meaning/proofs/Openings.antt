@@ -22,7 +22,7 @@ use Rattle.meaning.specs.Names.{Program}
 use Rattle.meaning.specs.Opening
 use Rattle.meaning.specs.Opening.{Opened, asOpened, tooLong, misshapen, openProgram, openText}
 use Rattle.meaning.specs.Table.{HoldsAll, laidAll, asTable}
-use Rattle.meaning.specs.Calls.{opening, stateFrom, replies, standing}
+use Rattle.meaning.specs.Calls.{Call, opening, stateFrom, replies, standing}
 use Rattle.meaning.specs.Positions.{opened, answer, moved, machineReplies}
 use Rattle.meaning.proofs.ListLaws.{clash, cons-∈, no-∈, one-∈, map-∈, append-∈}
 use Rattle.meaning.proofs.Numbering.{renumbered-size, renumbered-rows, renumbered-ordered}
@@ -144,14 +144,14 @@ module _ (text : List ℕ) (o : Opened) (e : openText text ≡ value o) where
       omega (arith, row-count, rows-below-1024 (o .monitors) (a .shaped) (omega (arith, a .few)))
 
   -- The machine of active positions answers every list of calls as the definitions do.
-  pub machine-right : (ws : List ℕ) → machineReplies (o .monitors) (o .initial) (o .wires) ws ≡ replies (o .monitors) (o .initial) (o .wires) ws
-  machine-right ws = calls-right (o .monitors) all-read (o .initial) (o .wires) ws
+  pub machine-right : (cs : List Call) → machineReplies (o .monitors) (o .initial) (o .wires) cs ≡ replies (o .monitors) (o .initial) (o .wires) cs
+  machine-right cs = calls-right (o .monitors) all-read (o .initial) (o .wires) cs
 
   -- And it stands then where their meaning does.
-  pub machine-stands : (ws : List ℕ)
-      → Alike (λ v h. Tracks (o .monitors) h v) (stateFrom (answer (o .monitors)) (moved (o .monitors)) (o .wires) (opening (opened (o .monitors) (o .initial))) ws)
-      (standing (o .monitors) (o .initial) (o .wires) ws)
-  machine-stands ws = states-right (o .monitors) all-read (o .initial) (o .wires) ws
+  pub machine-stands : (cs : List Call)
+      → Alike (λ v h. Tracks (o .monitors) h v) (stateFrom (answer (o .monitors)) (moved (o .monitors)) (o .wires) (opening (opened (o .monitors) (o .initial))) cs)
+      (standing (o .monitors) (o .initial) (o .wires) cs)
+  machine-stands cs = states-right (o .monitors) all-read (o .initial) (o .wires) cs
 
 -- ---- rules 9 and 12 of a program that reading gives are those of words
 

@@ -1,15 +1,24 @@
--- The replies to a list of tick calls on one watch, from its opening on (docs/REFERENCE.md, W1 to W10).
+-- The replies to a list of calls, looks and takes, on one watch from its opening on (docs/REFERENCE.md, W1 to W11).
 use mathlib.Core.List.{List, [], _∷_, _++_}
 use mathlib.Core.Bool.{Bool, true, false, not, cond}
 use mathlib.Core.Path.{_≡_}
 use mathlib.Core.Logic.{_↔_}
 use Prim.Native.Nat.{ℕ, suc, _^_, _≤_, _<_}
 use lib.Dec.{T, leb}
-use lib.ListN.{length, take, getD}
+use lib.ListN.{length, take as upTo, getD}
 use Rattle.meaning.specs.Lists.{any, count, only}
 use Rattle.refusals.specs.Numbers as number
 use Rattle.meaning.specs.Expression.{Exp}
 use Rattle.meaning.specs.Fit.{Verdict, ok as clean, bad as broken, History, start, onward, history, judged}
+
+-- W2: "A call is a look or a take, and hands over a watch and a 64-bit word"
+pub data Call : Type 0 where
+  look : (word : ℕ) → Call
+  take : (word : ℕ) → Call
+
+abbrev pub wordOf : Call → ℕ
+wordOf (look w) = w
+wordOf (take w) = w
 
 -- W2: "The answer is ok, bad with a monitor, or refused with a number". X12: a refused call "by itself" has place 0.
 pub data Reply : Type 0 where
@@ -20,68 +29,6 @@ pub data Reply : Type 0 where
 abbrev pub replyOf : Verdict → Reply
 replyOf clean = ok
 replyOf (broken m) = bad m
-
--- N6: "ticks of a watch | 1,000,000"
-abbrev pub mostTicks : ℕ
-mostTicks = 1000000
-
--- W4: "1,000,000 earlier calls were ok"
-abbrev pub isFull : (oks : ℕ) → Bool
-isFull oks = leb mostTicks oks
-
--- W5: "the word has a bit above the wires: it is 2^k or more, k being the text's number of wires"
-abbrev pub isStray : (wires word : ℕ) → Bool
-isStray wires w = leb (2 ^ wires) w
-
--- What stands between two calls: what the next word is judged by, how many calls were ok, and whether one was bad.
-pub record State (S : Type 0) : Type 0 where
-  pub inner : S
-  pub oks : ℕ
-  pub stopped : Bool
-
--- W1: "tick count 0, .. and is not stopped"
-abbrev pub opening : {S : Type 0} → S → State S
-opening s = record { inner = s; oks = 0; stopped = false }
-
--- S is the history of the words, or the watch of the machine; judge and move are what it makes of a word.
-module _ {S : Type 0} where
-  -- X11: "a call by 16, 17 and then 15". W3: "an earlier call on this watch was bad", W4: "none was bad, and 1,000,000
-  -- earlier calls were ok", W5: "neither of these, and the word has a bit above the wires", W6: "Every other call is judged."
-  -- The state holds just what this asks of the earlier calls: only ok adds to oks, and only bad sets stopped.
-  unfoldable pub reply : (judge : S → ℕ → Verdict) (wires : ℕ) → State S → ℕ → Reply
-  reply judge wires s w =
-      cond (s .stopped) (refused number.stopped 0)
-      (cond (isFull (s .oks)) (refused number.full 0)
-      (cond (isStray wires w) (refused number.stray 0)
-      (replyOf (judge (s .inner) w))))
-
-  -- W7: "After ok the word is the last of the words so far, the tick count is one higher". W8: "After bad the watch is
-  -- stopped, and in all else as before the call". W9: "A refused call leaves the watch as it was".
-  abbrev pub after : (move : S → ℕ → S) → State S → ℕ → Reply → State S
-  after move s w ok = record { inner = move (s .inner) w; oks = suc (s .oks); stopped = s .stopped }
-  after move s w (bad m) = record { inner = s .inner; oks = s .oks; stopped = true }
-  after move s w (refused n p) = s
-
-  -- W10: "each other one the watch that the call before it left"
-  unfoldable pub repliesFrom : (judge : S → ℕ → Verdict) (move : S → ℕ → S) (wires : ℕ) → State S → List ℕ → List Reply
-  repliesFrom judge move wires s [] = []
-  repliesFrom judge move wires s (w ∷ ws) = reply judge wires s w ∷ repliesFrom judge move wires (after move s w (reply judge wires s w)) ws
-
-  -- what the calls leave
-  unfoldable pub stateFrom : (judge : S → ℕ → Verdict) (move : S → ℕ → S) (wires : ℕ) → State S → List ℕ → State S
-  stateFrom judge move wires s [] = s
-  stateFrom judge move wires s (w ∷ ws) = stateFrom judge move wires (after move s w (reply judge wires s w)) ws
-
--- the replies that the words' meaning fixes, from the monitors, the first store values and the number of wires;
--- W10: "the first gets the watch that opening gave"
-abbrev pub replies : List Exp → List ℕ → ℕ → List ℕ → List Reply
-replies ms initial wires ws = repliesFrom (judged ms) (onward ms) wires (opening (start initial)) ws
-
--- and what then stands: the history of the ok words with the store values, their number, and whether a call was bad
-abbrev pub standing : List Exp → List ℕ → ℕ → List ℕ → State History
-standing ms initial wires ws = stateFrom (judged ms) (onward ms) wires (opening (start initial)) ws
-
--- ---- the same clauses, of one call and the list of those before it ----
 
 abbrev pub isOk : Reply → Bool
 isOk ok = true
@@ -98,20 +45,105 @@ isRefused ok = false
 isRefused (bad m) = false
 isRefused (refused n p) = true
 
--- the words of the calls not refused (W10: up to a bad one "those of the ok calls, in order")
+-- N6: "ticks of a watch | 1,000,000"
+abbrev pub mostTicks : ℕ
+mostTicks = 1000000
+
+-- W4: "1,000,000 earlier takes were ok"
+abbrev pub isFull : (oks : ℕ) → Bool
+isFull oks = leb mostTicks oks
+
+-- W5: "the word has a bit above the wires: it is 2^k or more, k being the text's number of wires"
+abbrev pub isStray : (wires word : ℕ) → Bool
+isStray wires w = leb (2 ^ wires) w
+
+-- What stands between two calls: what the next word is judged by, how many takes were ok, and whether one was bad.
+pub record State (S : Type 0) : Type 0 where
+  pub inner : S
+  pub oks : ℕ
+  pub stopped : Bool
+
+-- W1: "tick count 0, .. and is not stopped"
+abbrev pub opening : {S : Type 0} → S → State S
+opening s = record { inner = s; oks = 0; stopped = false }
+
+-- S is the history of the words, or the watch of the machine; judge and move are what it makes of a word.
+module _ {S : Type 0} where
+  -- The answer to a word, looked at or taken; W10, of a look: "Its answer is the one that a take of its word would get in its
+  -- place". X11: "a call by 16, 17 and then 15". W3: "an earlier take on this watch
+  -- was bad", W4: "none was bad, and 1,000,000 earlier takes were ok", W5: "neither of these, and the word has a bit above the
+  -- wires", W6: "Every other call is judged." The state holds just what this asks of the earlier takes: only ok adds to oks,
+  -- and only bad sets stopped.
+  unfoldable pub reply : (judge : S → ℕ → Verdict) (wires : ℕ) → State S → ℕ → Reply
+  reply judge wires s w =
+      cond (s .stopped) (refused number.stopped 0)
+      (cond (isFull (s .oks)) (refused number.full 0)
+      (cond (isStray wires w) (refused number.stray 0)
+      (replyOf (judge (s .inner) w))))
+
+  -- What a take leaves. W7: "After ok the word is the last of the words so far, the tick count is one higher". W8: "After bad
+  -- the watch is stopped, and in all else as before the take". W9: "A refused call leaves the watch as it was".
+  abbrev pub after : (move : S → ℕ → S) → State S → ℕ → Reply → State S
+  after move s w ok = record { inner = move (s .inner) w; oks = suc (s .oks); stopped = s .stopped }
+  after move s w (bad m) = record { inner = s .inner; oks = s .oks; stopped = true }
+  after move s w (refused n p) = s
+
+  -- W10: "A look leaves the watch as it was, whatever its answer"
+  abbrev pub afterCall : (move : S → ℕ → S) → State S → Call → Reply → State S
+  afterCall move s (look w) r = s
+  afterCall move s (take w) r = after move s w r
+
+  -- W11: "each other one the watch that the call before it left"
+  unfoldable pub repliesFrom : (judge : S → ℕ → Verdict) (move : S → ℕ → S) (wires : ℕ) → State S → List Call → List Reply
+  repliesFrom judge move wires s [] = []
+  repliesFrom judge move wires s (c ∷ cs) =
+      let r = reply judge wires s (wordOf c) in
+      r ∷ repliesFrom judge move wires (afterCall move s c r) cs
+
+  -- what the calls leave
+  unfoldable pub stateFrom : (judge : S → ℕ → Verdict) (move : S → ℕ → S) (wires : ℕ) → State S → List Call → State S
+  stateFrom judge move wires s [] = s
+  stateFrom judge move wires s (c ∷ cs) = stateFrom judge move wires (afterCall move s c (reply judge wires s (wordOf c))) cs
+
+-- the replies that the words' meaning fixes, from the monitors, the first store values and the number of wires;
+-- W11: "the first gets the watch that opening gave"
+abbrev pub replies : List Exp → List ℕ → ℕ → List Call → List Reply
+replies ms initial wires cs = repliesFrom (judged ms) (onward ms) wires (opening (start initial)) cs
+
+-- and what then stands: the history of the words of ok takes with the store values, their number, and whether a take was bad
+abbrev pub standing : List Exp → List ℕ → ℕ → List Call → State History
+standing ms initial wires cs = stateFrom (judged ms) (onward ms) wires (opening (start initial)) cs
+
+-- ---- the same clauses, of one call and the takes before it ----
+
+-- W11: "Only takes count": the words of the takes among some calls
+abbrev pub taken : List Call → List ℕ
+taken [] = []
+taken (look w ∷ cs) = taken cs
+taken (take w ∷ cs) = w ∷ taken cs
+
+-- and the replies to them, of those to all calls
+abbrev pub takenReplies : List Call → List Reply → List Reply
+takenReplies [] rs = []
+takenReplies (c ∷ cs) [] = []
+takenReplies (look w ∷ cs) (r ∷ rs) = takenReplies cs rs
+takenReplies (take w ∷ cs) (r ∷ rs) = r ∷ takenReplies cs rs
+
+-- the words of the takes not refused (W11: up to a bad one "those of the ok takes, in order")
 abbrev pub judgedWords : List ℕ → List Reply → List ℕ
 judgedWords [] rs = []
 judgedWords (w ∷ ws) [] = []
 judgedWords (w ∷ ws) (r ∷ rs) = only (not (isRefused r)) (w ∷ []) ++ judgedWords ws rs
 
--- W3 to W6: the call with word w, after calls with the words ws and the replies rs, is rightly answered with r
+-- W3 to W6, and W10 since it is the same for both: a call with word w, look or take, is rightly answered with r after takes of the words ws with the replies rs
 pub record Rightly (ms : List Exp) (initial : List ℕ) (wires : ℕ) (ws : List ℕ) (rs : List Reply) (w : ℕ) (r : Reply) : Type 0 where
   pub stopped : r ≡ refused number.stopped 0 ↔ T (any isBad rs)
   pub full : r ≡ refused number.full 0 ↔ (T (not (any isBad rs)) × (count isOk rs ≡ mostTicks))
   pub stray : r ≡ refused number.stray 0 ↔ (T (not (any isBad rs)) × (count isOk rs ≡ mostTicks → ⊥) × (2 ^ wires ≤ w))
   pub other : T (not (any isBad rs)) → (count isOk rs ≡ mostTicks → ⊥) → w < 2 ^ wires → r ≡ replyOf (judged ms (history ms initial (judgedWords ws rs)) w)
 
--- W10: every call of the list is
-abbrev pub AllRightly : List Exp → List ℕ → ℕ → List ℕ → List Reply → Type 0
-AllRightly ms initial wires ws rs =
-    (n : ℕ) → n < length ws → Rightly ms initial wires (take n ws) (take n rs) (getD ws n 0) (getD rs n ok)
+-- W11: every call of the list is, by the takes before it
+abbrev pub AllRightly : List Exp → List ℕ → ℕ → List Call → List Reply → Type 0
+AllRightly ms initial wires cs rs =
+    (n : ℕ) → n < length cs
+    → Rightly ms initial wires (taken (upTo n cs)) (takenReplies (upTo n cs) (upTo n rs)) (wordOf (getD cs n (take 0))) (getD rs n ok)

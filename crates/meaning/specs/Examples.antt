@@ -1,9 +1,11 @@
--- The shared list of examples: rule texts and words with their right sheets (docs/REFERENCE.md, P1 to P7), which the customer's specification and its requests give.
+-- The shared list of examples: rule texts and words with their right sheets (docs/REFERENCE.md, P1 to P7), which the customer's specification and its requests give; and looks
+-- and takes with the right replies (W10 and W11).
 -- Assumes nothing.
 use Prim.Native.Nat.{ℕ}
 use Prim.Native.String.{String}
 use mathlib.Core.List.{List, [], _∷_, _++_}
 use Rattle.lexer.specs.Bytes.{bytes}
+use Rattle.meaning.specs.Calls.{Call, look, take, Reply, ok, bad, refused}
 
 pub record Example : Type 0 where
   pub text : List ℕ
@@ -77,3 +79,22 @@ pasts =
 
 abbrev pub examples : List Example
 examples = proving ++ (sample ∷ misreadings ++ pasts)
+
+-- ---- looks and takes
+
+pub record Dialogue : Type 0 where
+  pub text : List ℕ
+  pub calls : List Call
+  pub replies : List Reply
+
+-- W10: "a bad one stops nothing, and none counts for anything later"; W9, W3: after a stray word the watch goes on, after a bad take it does not, for looks either
+abbrev pub dialogues : List Dialogue
+dialogues =
+    record {
+      text = overAbc "a";
+      calls = look 0 ∷ take 1 ∷ look 0 ∷ look 8 ∷ take 8 ∷ take 1 ∷ take 0 ∷ look 1 ∷ take 1 ∷ [];
+      replies = bad 0 ∷ ok ∷ bad 0 ∷ refused 15 0 ∷ refused 15 0 ∷ ok ∷ bad 0 ∷ refused 16 0 ∷ refused 16 0 ∷ [];
+    }
+    -- a look whose word became the word before: a would have been 1, and the take would be bad
+    ∷ record { text = overAbc "b || a == past(a) & !b"; calls = look 3 ∷ take 0 ∷ []; replies = ok ∷ ok ∷ [] }
+    ∷ []

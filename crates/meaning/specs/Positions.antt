@@ -7,7 +7,7 @@ use lib.Dec.{eqb}
 use Rattle.meaning.specs.Lists.{each, any, only, member}
 use Rattle.meaning.specs.Expression.{Exp, letter, seq, alt, star, pipe, letters}
 use Rattle.meaning.specs.Fit.{Tick, meets, writeMet, Verdict, ok, bad}
-use Rattle.meaning.specs.Calls.{Reply, opening, repliesFrom}
+use Rattle.meaning.specs.Calls.{Call, Reply, opening, repliesFrom}
 
 -- ---- one monitor ----
 
@@ -147,7 +147,7 @@ seen v w = record { word = w; before = v .last; stores = v .stores }
 abbrev pub ticked : List Exp → Watch → ℕ → Ticked
 ticked ms v w = goEach 0 ms (v .positions) (seen v w)
 
--- the watch after the tick (W7); after a bad one, W8: "in all else as before the call"
+-- the watch after the tick (W7); after a bad one, W8: "in all else as before the take"
 abbrev pub movedBy : List Exp → Watch → ℕ → Ticked → Watch
 movedBy ms v w (fine nss) = record { positions = keptEach ms nss; last = w; stores = writeEach (seen v w) ms nss (v .stores) }
 movedBy ms v w (wrong i) = v
@@ -165,5 +165,5 @@ answer ms v w = told (ticked ms v w)
 -- ---- lists of calls ----
 
 -- the replies of the machine of active positions
-abbrev pub machineReplies : List Exp → List ℕ → ℕ → List ℕ → List Reply
-machineReplies ms initial wires ws = repliesFrom (answer ms) (moved ms) wires (opening (opened ms initial)) ws
+abbrev pub machineReplies : List Exp → List ℕ → ℕ → List Call → List Reply
+machineReplies ms initial wires cs = repliesFrom (answer ms) (moved ms) wires (opening (opened ms initial)) cs

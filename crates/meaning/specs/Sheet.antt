@@ -85,8 +85,8 @@ onItem (trace.value (word w n)) t next = next w n
 onItem (trace.value end) t next = cleanLine t
 onItem (trace.refused number place) t next = refusalLine number (t ∷ [])
 
--- the lines from tick t on, where these bytes are left; a record has at least one byte (R1). P4: "the trace is read record by record, and the watch is called with
--- each word".
+-- the lines from tick t on, where these bytes are left; a record has at least one byte (R1). P4: "the trace is read record by record, and the watch takes each
+-- word".
 unfoldable pub tickLines : ℕ → Opened → State History → ℕ → List ℕ → ℕ → List ℕ
 tickLines zero o s t rest before = cleanLine t
 tickLines (suc k) o s t rest before =

@@ -1,4 +1,4 @@
--- Every list of tick calls on the watch of an accepted text gets the replies that the text's meaning fixes. Assumes nothing.
+-- Every list of looks and takes on the watch of an accepted text gets the replies that the text's meaning fixes. Assumes nothing.
 use mathlib.Core.Path.{_≡_, refl, sym, ap, _∙_, subst, subst₂}
 use mathlib.Core.Option.{Option, none}
 use mathlib.Core.Logic.{⊎-elim}
@@ -15,7 +15,7 @@ use Rattle.meaning.specs.ShapeTests.{agree, AllSized}
 use Rattle.meaning.specs.Fit.{Tick, meets, write}
 use Rattle.meaning.specs.Positions as machine
 use Rattle.meaning.specs.Table.{Table}
-use Rattle.meaning.specs.Calls.{stateFrom, replies, standing as stood}
+use Rattle.meaning.specs.Calls.{Call, stateFrom, replies, standing as stood}
 use Rattle.meaning.specs.Opening.{Opened, openText}
 use Rattle.meaning.proofs.ListLaws.{here, there, no-∈, cons-∈, map-∈, ∈-map}
 use Rattle.meaning.proofs.Step.{Solid}
@@ -235,23 +235,23 @@ module _ (text : List ℕ) (o : Opened) (e : openText text ≡ value o) where
   unfolding v
   few-letters = let a = c .few-letters in let b = Program.letters-counted o c in omega (arith, a, b)
 
-  pub calls-answered : (ws : List ℕ) → repliesOf (watchOf (value o)) ws ≡ replies (o .monitors) (o .initial) (o .wires) ws
+  pub calls-answered : (cs : List Call) → repliesOf (watchOf (value o)) cs ≡ replies (o .monitors) (o .initial) (o .wires) cs
   unfolding v watchOf
-  calls-answered ws =
+  calls-answered cs =
       machine-replies (o .monitors) padded (length (o .initial)) v (Program.monitors-counted o c) (c .few-monitors) few-letters step-right (stateOf v)
-      (machine.opened (o .monitors) (o .initial)) start-like ws
-      ∙ machine-right text o e ws
+      (machine.opened (o .monitors) (o .initial)) start-like cs
+      ∙ machine-right text o e cs
 
   -- After any list of calls the watch has the tick count, the stop, the word before and the store values that the meaning fixes, zeros behind these; all else but the marks is
   -- as it was opened.
-  pub watch-held : (ws : List ℕ) → Held (watchOf (value o)) (watchAfterAll (watchOf (value o)) ws) (stood (o .monitors) (o .initial) (o .wires) ws)
+  pub watch-held : (cs : List Call) → Held (watchOf (value o)) (watchAfterAll (watchOf (value o)) cs) (stood (o .monitors) (o .initial) (o .wires) cs)
   unfolding v watchOf
-  watch-held ws =
-      let s = stateFrom (judge v) (onward v) (v .wires) (stateOf v) ws in
+  watch-held cs =
+      let s = stateFrom (judge v) (onward v) (v .wires) (stateOf v) cs in
       let (l, n, b) = machine-states (o .monitors) padded (length (o .initial)) v (Program.monitors-counted o c) (c .few-monitors) few-letters step-right (stateOf v)
-      (machine.opened (o .monitors) (o .initial)) start-like ws in
-      let (t, k, q) = machine-stands text o e ws in
-      let w = watches-by v (stateOf v) ws in
+      (machine.opened (o .monitors) (o .initial)) start-like cs in
+      let (t, k, q) = machine-stands text o e cs in
+      let w = watches-by v (stateOf v) cs in
       record {
         tables = w ∙ ap (withState v) (sym (ap stateOf w));
         ticks = ap (λ (u : Watch). u .ticks) w ∙ n ∙ k;

@@ -1,4 +1,4 @@
--- The laws behind `tick`.
+-- The laws behind `look` and `take`.
 -- what it says that a tick's numbers are those of a table's rows and of its letters
 mod Coded
 -- what may be remembered during a tick, and when an answer and the marks with it are right
@@ -17,6 +17,8 @@ mod Monitors
 mod Watching
 -- a list of calls on a watch is one on what moves in it, with 16, 17 and 15 decided as in the meaning
 mod Replies
+-- looks among takes: what they answer, and that they change nothing else
+pub mod Looks
 -- a letter's test and writes, by the branches of the code
 mod LetterSteps
 -- what does nothing for an unmarked letter goes on from the first marked one; the new marks

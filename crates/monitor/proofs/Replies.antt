@@ -1,4 +1,4 @@
--- A list of tick calls on one watch: 16, 17, 15 and the verdicts are those of what moves in it. Assumes nothing.
+-- A list of looks and takes on one watch: 16, 17, 15 and the verdicts are those of what moves in it. Assumes nothing.
 use mathlib.Core.Path.{_≡_, refl, sym, ap, ap₂, _∙_, subst}
 use mathlib.Core.Bool.{Bool, cond}
 use mathlib.Core.List.{List, [], _∷_}
@@ -10,27 +10,36 @@ use lib.ListN.{length}
 use Rattle.meaning.specs.Expression.{Exp}
 use Rattle.meaning.specs.Fit.{Tick, ok, bad}
 use Rattle.meaning.specs.Positions as machine
-use Rattle.meaning.specs.Calls.{State, reply, after, repliesFrom, stateFrom}
+use Rattle.meaning.specs.Calls.{Call, look, take, wordOf, State, reply, afterCall, repliesFrom, stateFrom}
 use Rattle.meaning.proofs.ListLaws.{clash}
 use Rattle.meaning.proofs.Calls.{Alike, same-replies, same-states}
 use Rattle.rules.specs.declared.Watch.{Watch}
 use Rattle.monitor.specs.Ticks.{Layout, layout, within, Move, stepWithin}
-use Rattle.monitor.specs.Calls.{Moving, givenOf, layoutOf, stepFrom, judge, onward, withState, replyOf, watchAfter, repliesOf, watchAfterAll}
+use Rattle.monitor.specs.Calls.{Moving, givenOf, layoutOf, stepFrom, judge, onward, withState, replyOf, watchAfter, watchAfterCall, repliesOf, watchAfterAll}
 use Rattle.monitor.proofs.Moves.{MarksAll}
 use Rattle.monitor.proofs.Watching.{Steps}
 
 -- ---- calls on any watch
 
-pub replies-by : (v : Watch) (s : State Moving) (ws : List ℕ) → repliesOf (withState v s) ws ≡ repliesFrom (judge v) (onward v) (v .wires) s ws
-unfolding repliesOf repliesFrom replyOf watchAfter
-replies-by v s [] = refl
-replies-by v s (w ∷ ws) =
-    ap (λ rs. reply (judge v) (v .wires) s w ∷ rs) (replies-by v (after (onward v) s w (reply (judge v) (v .wires) s w)) ws)
+module _ (v : Watch) where
+  abbrev next : State Moving → Call → State Moving
+  next s c = afterCall (onward v) s c (reply (judge v) (v .wires) s (wordOf c))
 
-pub watches-by : (v : Watch) (s : State Moving) (ws : List ℕ) → watchAfterAll (withState v s) ws ≡ withState v (stateFrom (judge v) (onward v) (v .wires) s ws)
-unfolding watchAfterAll stateFrom replyOf watchAfter
-watches-by v s [] = refl
-watches-by v s (w ∷ ws) = watches-by v (after (onward v) s w (reply (judge v) (v .wires) s w)) ws
+  after-by : (s : State Moving) (c : Call) → watchAfterCall (withState v s) c ≡ withState v (next s c)
+  unfolding replyOf watchAfter
+  after-by s (look w) = refl
+  after-by s (take w) = refl
+
+  pub replies-by : (s : State Moving) (cs : List Call) → repliesOf (withState v s) cs ≡ repliesFrom (judge v) (onward v) (v .wires) s cs
+  unfolding repliesOf repliesFrom replyOf
+  replies-by s [] = refl
+  replies-by s (c ∷ cs) =
+      ap (λ rs. reply (judge v) (v .wires) s (wordOf c) ∷ rs) (ap (λ u. repliesOf u cs) (after-by s c) ∙ replies-by (next s c) cs)
+
+  pub watches-by : (s : State Moving) (cs : List Call) → watchAfterAll (withState v s) cs ≡ withState v (stateFrom (judge v) (onward v) (v .wires) s cs)
+  unfolding watchAfterAll stateFrom
+  watches-by s [] = refl
+  watches-by s (c ∷ cs) = ap (λ u. watchAfterAll u cs) (after-by s c) ∙ watches-by (next s c) cs
 
 -- ---- calls on a watch whose steps are those of the meaning's machine
 
@@ -77,13 +86,13 @@ module _ (ms : List Exp) (pad : List ℕ → List ℕ) (stores : ℕ) (v : Watch
       by (machine.fine nss) h e = let (a, b, c, d) = h .goes nss refl in record { marks = b; values = c; last = refl; long = d }
       by (machine.wrong j) h e = clash (cc e)
 
-  module _ (s : State Moving) (m : machine.Watch) (l : Like ms pad stores (s .inner) m) (ws : List ℕ) where
+  module _ (s : State Moving) (m : machine.Watch) (l : Like ms pad stores (s .inner) m) (cs : List Call) where
     abbrev other : State machine.Watch
     other = record { inner = m; oks = s .oks; stopped = s .stopped }
 
-    pub machine-replies : repliesOf (withState v s) ws ≡ repliesFrom (machine.answer ms) (machine.moved ms) (v .wires) other ws
+    pub machine-replies : repliesOf (withState v s) cs ≡ repliesFrom (machine.answer ms) (machine.moved ms) (v .wires) other cs
     machine-replies =
-        replies-by v s ws ∙ same-replies (judge v) (onward v) (machine.answer ms) (machine.moved ms) (Like ms pad stores) same-judgment same-move (v .wires) ws s other (l, refl, refl)
+        replies-by v s cs ∙ same-replies (judge v) (onward v) (machine.answer ms) (machine.moved ms) (Like ms pad stores) same-judgment same-move (v .wires) cs s other (l, refl, refl)
 
-    pub machine-states : Alike (Like ms pad stores) (stateFrom (judge v) (onward v) (v .wires) s ws) (stateFrom (machine.answer ms) (machine.moved ms) (v .wires) other ws)
-    machine-states = same-states (judge v) (onward v) (machine.answer ms) (machine.moved ms) (Like ms pad stores) same-judgment same-move (v .wires) ws s other (l, refl, refl)
+    pub machine-states : Alike (Like ms pad stores) (stateFrom (judge v) (onward v) (v .wires) s cs) (stateFrom (machine.answer ms) (machine.moved ms) (v .wires) other cs)
+    machine-states = same-states (judge v) (onward v) (machine.answer ms) (machine.moved ms) (Like ms pad stores) same-judgment same-move (v .wires) cs s other (l, refl, refl)

@@ -5,7 +5,7 @@ use mathlib.Core.List.{List, [], _∷_}
 use Prim.Native.Nat.{ℕ, suc, _+_, _-_, _/_, _^_, _<_, _≤_, min}
 use native.Mathlib.Omega.{arith}
 use native.Mathlib.Nat.{div-lt-iff-lt-mul, div-eq-of-lt}
-use borrow.Author.Tests.{eq-eqb, ne-eqb, lt-ltb, le-ltb, lt-leb, le-leb, ltb-true, ltb-false, leb-true, leb-false}
+use borrow.Author.Tests.{eq-eqb, ne-eqb, lt-ltb, le-ltb, lt-leb, le-leb, leb-true, leb-false}
 use lib.Dec.{eqb, leb, ltb}
 use lib.ListN.{getD}
 use lib.Pow.{pow-pos, pow-mono}
@@ -14,7 +14,7 @@ use Rattle.meaning.specs.Calls.{Reply, refused, isStray, isFull, reply, after, 
 use Rattle.words.specs.Words.{part0}
 use Rattle.monitor.specs.Letters.{Given, given, writeLetter}
 use Rattle.monitor.specs.Walk.{Told, told, askM, leaveM}
-use Rattle.monitor.specs.Ticks.{steps, Layout, layout, firstMarked, andThen, letterGoes, lettersGo, startGoes, lettersEnd, monitorGoes, Reached, reached, reachedBy, monitorsGo, marksAfter, writeIf, writeMarked, Move, move, emptyMemory, moveBy, stepWithin, stepOf, verdictOf}
+use Rattle.monitor.specs.Ticks.{steps, Layout, layout, firstMarked, andThen, letterGoes, lettersGo, startGoes, lettersEnd, monitorGoes, Reached, reached, reachedBy, monitorsGo, marksAfter, writeIf, writeMarked, writers, Move, move, emptyMemory, moveBy, stepWithin, stepOf, within, stuckAt}
 use Rattle.rules.specs.declared.Watch.{Watch}
 use Rattle.monitor.specs.Calls.{Moving, tablesOf, withState, refusedBy, stateOf, judge, onward, stepFrom, layoutOf, replyOf, watchAfter}
 use Rattle.monitor.specs.Shown.{shownAnswer}
@@ -167,20 +167,33 @@ no-monitor g y K n M = let d : n ≡ n - 0 = omega arith in ap (λ (m : ℕ). mo
 
 -- ---- one tick
 
-module _ (g : Given) (p o f : List ℕ) (m l m′ l′ : ℕ) (K : List ℕ) (i : ℕ) (M : List ℕ) (e : m′ ≡ min m 32) (d : l′ ≡ min l 256)
-    (r : reached i M ≡ monitorsGo g (layout p o f m′ l′) K m′ 0 emptyMemory) where
-  step-any : moveBy g (layout p o f m′ l′) K (reached i M) ≡ stepWithin g (layout p o f (min m 32) (min l 256)) K
+-- no more monitors and letters than there is room for
+pub walk-within : (g : Given) (p o f : List ℕ) (m l : ℕ) (K : List ℕ) (M : List ℕ) (t : Reached) (m′ l′ : ℕ) → m′ ≡ min m 32 → l′ ≡ min l 256 → t ≡ monitorsGo g (layout p o f m′ l′) K m′ 0 M
+    → t ≡ monitorsGo g (layout p o f (min m 32) (min l 256)) K (min m 32) 0 M
+walk-within g p o f m l K M t m′ l′ e d r = r ∙ ap₂ (λ (a b : ℕ). monitorsGo g (layout p o f a b) K a 0 M) e d
+
+module _ (g : Given) (y : Layout) (K : List ℕ) (i : ℕ) (M : List ℕ) (r : reached i M ≡ monitorsGo g (within y) K (within y .monitors) 0 emptyMemory) where
+  step-any : moveBy g (within y) K (reached i M) ≡ stepOf g y K
   unfolding stepWithin
-  step-any = ap (moveBy g (layout p o f m′ l′) K) r ∙ ap₂ (λ (a b : ℕ). stepWithin g (layout p o f a b) K) e d
+  step-any = ap (moveBy g (within y) K) r
 
-  pub step-stops : i < m′ → move i K (g .values) ≡ stepWithin g (layout p o f (min m 32) (min l 256)) K
-  step-stops h = sym (taken (ltb i m′) (move i K (g .values)) _ (lt-ltb i m′ h)) ∙ step-any
+  -- the monitor reached, which is all that a look asks
+  pub step-reached : i ≡ stepOf g y K .monitor
+  step-reached = sym (either (stuckAt i (y .monitors))) ∙ ap (λ (a : Move). a .monitor) step-any
+    where
+      either : (b : Bool) → cond b (move i K (g .values)) (move i (marksAfter 256 M) (writeMarked g (marksAfter 256 M) (writers g (within y .letters)) 0 (g .values))) .monitor ≡ i
+      either true = refl
+      either false = refl
 
-  pub step-moves : m′ ≤ i → (N σ : List ℕ) → N ≡ marksAfter 256 M → (q k : ℕ) → q ≡ part0 (getD (g .letters) 768 0) → k ≡ min q l′ → σ ≡ writeMarked g N k 0 (g .values)
-      → move i N σ ≡ stepWithin g (layout p o f (min m 32) (min l 256)) K
-  step-moves h N σ a q k u v b =
-      ap₂ (λ (s t : List ℕ). move i s t) a (b ∙ ap₂ (λ (s : List ℕ) (j : ℕ). writeMarked g s j 0 (g .values)) a (v ∙ ap (λ (j : ℕ). min j l′) u))
-      ∙ sym (left (ltb i m′) (move i K (g .values)) _ (le-ltb i m′ h)) ∙ step-any
+  module _ (b : Bool) (f : b ≡ stuckAt i (y .monitors)) where
+    pub step-stops : b ≡ true → move i K (g .values) ≡ stepOf g y K
+    step-stops h = sym (taken (stuckAt i (y .monitors)) (move i K (g .values)) _ (sym f ∙ h)) ∙ step-any
+
+    pub step-moves : b ≡ false → (N σ : List ℕ) → N ≡ marksAfter 256 M → (q l k : ℕ) → q ≡ part0 (getD (g .letters) 768 0) → l ≡ min (y .letters) 256 → k ≡ min q l → σ ≡ writeMarked g N k 0 (g .values)
+        → move i N σ ≡ stepOf g y K
+    step-moves h N σ a q l k u c v w =
+        ap₂ (λ (s t : List ℕ). move i s t) a (w ∙ ap₂ (λ (s : List ℕ) (j : ℕ). writeMarked g s j 0 (g .values)) a (v ∙ ap₂ min u c))
+        ∙ sym (left (stuckAt i (y .monitors)) (move i K (g .values)) _ (sym f ∙ h)) ∙ step-any
 
 -- ---- refusals
 
@@ -204,10 +217,10 @@ module _ (b : Bool) (n k w : ℕ) (f : b ≡ false) where
   pub is-stray : n < 1000000 → (s : Bool) → s ≡ isStray k w → s ≡ true → 15 ≡ refusedBy b n k w
   is-stray h s e d = sym (left b 16 _ f ∙ left (isFull n) 17 _ (lt-leb 1000000 n h) ∙ taken (isStray k w) 15 0 (sym e ∙ d))
 
-  pub is-taken : n < 1000000 → (s : Bool) → s ≡ isStray k w → s ≡ false → 0 ≡ refusedBy b n k w
-  is-taken h s e d = sym (left b 16 _ f ∙ left (isFull n) 17 _ (lt-leb 1000000 n h) ∙ left (isStray k w) 15 0 (sym e ∙ d))
+  pub not-refused : n < 1000000 → (s : Bool) → s ≡ isStray k w → s ≡ false → 0 ≡ refusedBy b n k w
+  not-refused h s e d = sym (left b 16 _ f ∙ left (isFull n) 17 _ (lt-leb 1000000 n h) ∙ left (isStray k w) 15 0 (sym e ∙ d))
 
--- ---- the watch after a call
+-- ---- the watch after a take
 
 pub one-tick : (v : Watch) (K σ : List ℕ) (w : ℕ)
     → withState v (record { inner = record { marks = K; values = σ; last = w }; oks = v .ticks + 1; stopped = v .stopped })
@@ -223,6 +236,10 @@ pub lent-step : (v : Watch) (s : Moving) (w : ℕ) (t : List (List ℕ)) (a : Mo
     → a ≡ stepFrom v s w
 lent-step v s w t a e d = d ∙ ap (λ (u : List (List ℕ)). stepOf (given u (s .values) (w ∷ s .last ∷ [])) (layoutOf v) (s .marks)) e
 
+pub lent-peek : (v : Watch) (s : Moving) (w : ℕ) (t : List (List ℕ)) (i : ℕ) → t ≡ tablesOf v → i ≡ stepOf (given t (s .values) (w ∷ s .last ∷ [])) (layoutOf v) (s .marks) .monitor
+    → i ≡ stepFrom v s w .monitor
+lent-peek v s w t i e d = d ∙ ap (λ (a : Move). a .monitor) (lent-step v s w t _ e refl)
+
 module _ (v : Watch) (w n : ℕ) (e : n ≡ refusedBy (v .stopped) (v .ticks) (v .wires) w) where
   reply-refused : (n ≡ 0 → ⊥) → replyOf v w ≡ refused n 0
   unfolding replyOf reply
@@ -235,11 +252,14 @@ module _ (v : Watch) (w n : ℕ) (e : n ≡ refusedBy (v .stopped) (v .ticks) (v
       by false false true h = ap (λ (k : ℕ). refused k 0) (sym h)
       by false false false h = absurd (z h)
 
+  pub look-refused : (n ≡ 0 → ⊥) → shownAnswer (Refused n) ≡ replyOf v w
+  look-refused z = sym (reply-refused z)
+
   -- a refusal changes no watch
-  pub call-refused : (n ≡ 0 → ⊥) → (shownAnswer (Refused n) ≡ replyOf v w) × (v ≡ watchAfter v w)
+  pub take-refused : (n ≡ 0 → ⊥) → (shownAnswer (Refused n) ≡ replyOf v w) × (v ≡ watchAfter v w)
   unfolding watchAfter
-  call-refused z =
-      let h = sym (reply-refused z) in
+  take-refused z =
+      let h = look-refused z in
       (h, ap (λ (r : Reply). withState v (after (onward v) (stateOf v) w r)) h)
 
   pub few-ticks : n ≡ 0 → v .ticks < 1000000
@@ -261,22 +281,32 @@ module _ (v : Watch) (w n : ℕ) (e : n ≡ refusedBy (v .stopped) (v .ticks) (v
       by false false true h = absurd (let q : 15 ≡ 0 = sym h ∙ z in omega (arith, q))
       by false false false h = refl
 
-  module _ (z : n ≡ 0) (i m : ℕ) (K σ : List ℕ) (s : move i K σ ≡ stepFrom v (stateOf v .inner) w) (l : m ≡ min (v .monitors) 32) (u : Watch) where
-    reply-moved : replyOf v w ≡ verdictReply (cond (ltb i (min (v .monitors) 32)) (broken i) clean)
-    reply-moved = reply-judged z ∙ ap (λ (a : Move). verdictReply (verdictOf (layoutOf v) a)) (sym s)
+  module _ (z : n ≡ 0) (i : ℕ) (s : i ≡ stepFrom v (stateOf v .inner) w .monitor) (b : Bool) (f : b ≡ stuckAt i (v .monitors)) where
+    reply-reached : replyOf v w ≡ verdictReply (cond b (broken i) clean)
+    reply-reached =
+        reply-judged z ∙ ap (λ (j : ℕ). verdictReply (cond (stuckAt j (v .monitors)) (broken j) clean)) (sym s)
+        ∙ ap (λ (a : Bool). verdictReply (cond a (broken i) clean)) (sym f)
 
-    pub call-bad : i < m → u ≡ withState v (record { inner = stateOf v .inner; oks = v .ticks; stopped = true })
+    pub look-bad : b ≡ true → shownAnswer (Bad i) ≡ replyOf v w
+    look-bad h = sym (reply-reached ∙ ap verdictReply (taken b (broken i) clean h))
+
+    pub look-ok : b ≡ false → shownAnswer Ok ≡ replyOf v w
+    look-ok h = sym (reply-reached ∙ ap verdictReply (left b (broken i) clean h))
+
+  -- a take answers as a look does, and moves the watch on
+  module _ (z : n ≡ 0) (i : ℕ) (K σ : List ℕ) (s : move i K σ ≡ stepFrom v (stateOf v .inner) w) (b : Bool) (f : b ≡ stuckAt i (v .monitors)) (u : Watch) where
+    pub take-bad : b ≡ true → u ≡ withState v (record { inner = stateOf v .inner; oks = v .ticks; stopped = true })
         → (shownAnswer (Bad i) ≡ replyOf v w) × (u ≡ watchAfter v w)
     unfolding watchAfter
-    call-bad h q =
-        let r = sym (reply-moved ∙ ap verdictReply (taken (ltb i (min (v .monitors) 32)) (broken i) clean (lt-ltb i (min (v .monitors) 32) (omega (arith, l))))) in
+    take-bad h q =
+        let r = look-bad z i (ap (λ (a : Move). a .monitor) s) b f h in
         (r, q ∙ ap (λ (t : Reply). withState v (after (onward v) (stateOf v) w t)) r)
 
-    pub call-ok : m ≤ i → u ≡ withState v (record { inner = record { marks = K; values = σ; last = w }; oks = suc (v .ticks); stopped = v .stopped })
+    pub take-ok : b ≡ false → u ≡ withState v (record { inner = record { marks = K; values = σ; last = w }; oks = suc (v .ticks); stopped = v .stopped })
         → (shownAnswer Ok ≡ replyOf v w) × (u ≡ watchAfter v w)
     unfolding watchAfter
-    call-ok h q =
-        let r = sym (reply-moved ∙ ap verdictReply (left (ltb i (min (v .monitors) 32)) (broken i) clean (le-ltb i (min (v .monitors) 32) (omega (arith, l))))) in (
+    take-ok h q =
+        let r = look-ok z i (ap (λ (a : Move). a .monitor) s) b f h in (
           r,
           q ∙ ap (λ (a : Move). withState v (record { inner = record { marks = a .marks; values = a .values; last = w }; oks = suc (v .ticks); stopped = v .stopped })) s
               ∙ ap (λ (t : Reply). withState v (after (onward v) (stateOf v) w t)) r,

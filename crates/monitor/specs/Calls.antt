@@ -1,4 +1,4 @@
--- A tick call on a watch, and a list of them (docs/REFERENCE.md, W2 to W10): any watch, any words. Assumes nothing.
+-- A look or a take on a watch, and a list of them (docs/REFERENCE.md, W2 to W11): any watch, any words. Assumes nothing.
 use mathlib.Core.Bool.{Bool, cond}
 use mathlib.Core.List.{List, [], _∷_}
 use mathlib.Core.Path.{_≡_}
@@ -8,7 +8,7 @@ use lib.ListN.{getD, set, replicate}
 use lib.Seq.{sets}
 use Rattle.refusals.specs.Numbers.{stray, stopped, full}
 use Rattle.meaning.specs.Fit.{Verdict, History}
-use Rattle.meaning.specs.Calls.{Reply, isFull, isStray, State, reply, after}
+use Rattle.meaning.specs.Calls.{Call, look, take, wordOf, Reply, isFull, isStray, State, reply, after}
 use Rattle.rules.specs.declared.Watch.{Watch}
 use Rattle.monitor.specs.Letters.{Given, given}
 use Rattle.monitor.specs.Ticks.{Layout, layout, Move, stepOf, verdictOf}
@@ -76,7 +76,7 @@ withState v s =
       stopped = s .stopped;
     }
 
--- W2: a call's reply, and the watch after it. X11: 16, 17, 15 and then the verdict, as `meaning` has them, by what the watch makes of the word.
+-- W2: the reply to a word, looked at or taken, and the watch after its take. X11: 16, 17, 15 and then the verdict, as `meaning` has them, by what the watch makes of the word.
 unfoldable pub replyOf : Watch → ℕ → Reply
 replyOf v w = reply (judge v) (v .wires) (stateOf v) w
 
@@ -87,17 +87,22 @@ watchAfter v w = withState v (after (onward v) (stateOf v) w (replyOf v w))
 abbrev pub refusedBy : (stopped : Bool) → (oks wires word : ℕ) → ℕ
 refusedBy b n wires w = cond b stopped (cond (isFull n) full (cond (isStray wires w) stray 0))
 
--- W10: "each other one the watch that the call before it left"
-unfoldable pub repliesOf : Watch → List ℕ → List Reply
+-- W10: "A look leaves the watch as it was, whatever its answer"
+abbrev pub watchAfterCall : Watch → Call → Watch
+watchAfterCall v (look w) = v
+watchAfterCall v (take w) = watchAfter v w
+
+-- W11: "each other one the watch that the call before it left"
+unfoldable pub repliesOf : Watch → List Call → List Reply
 repliesOf v [] = []
-repliesOf v (w ∷ ws) = replyOf v w ∷ repliesOf (watchAfter v w) ws
+repliesOf v (c ∷ cs) = replyOf v (wordOf c) ∷ repliesOf (watchAfterCall v c) cs
 
 -- and the watch after them
-unfoldable pub watchAfterAll : Watch → List ℕ → Watch
+unfoldable pub watchAfterAll : Watch → List Call → Watch
 watchAfterAll v [] = v
-watchAfterAll v (w ∷ ws) = watchAfterAll (watchAfter v w) ws
+watchAfterAll v (c ∷ cs) = watchAfterAll (watchAfterCall v c) cs
 
--- W1, W7 to W9: what a watch u, opened as v, has where the meaning stands at h: tick count, stop, the word before and the store values, zeros behind these; all else but
+-- W1, W7 to W10: what a watch u, opened as v, has where the meaning stands at h: tick count, stop, the word before and the store values, zeros behind these; all else but
 -- the marks is as in v
 pub record Held (v u : Watch) (h : State History) : Type 0 where
   pub tables : u ≡ withState v (stateOf u)

@@ -1,4 +1,4 @@
--- What a tick does, over any numbers that a watch may hold (docs/REFERENCE.md, W). To be believed: of Calls `repliesOf`, one call behind the other, and Shown, what an answer of `tick` says. `replyOf`
+-- What a tick does, over any numbers that a watch may hold (docs/REFERENCE.md, W). To be believed: of Calls `watchAfterCall`, `repliesOf` and `watchAfterAll`, one call behind the other, and `Held`, what a watch then holds; and Shown, what an answer of `look` or `take` says. `replyOf`
 -- and `watchAfter` are believed by name alone, since sheet's Demands say what comes of them; Letters, Walk and Ticks mirror the code.
 pub mod Letters
 pub mod Walk

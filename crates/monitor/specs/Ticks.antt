@@ -1,5 +1,5 @@
 -- A tick, from a watch and a word to the answer and the new watch (docs/REFERENCE.md, W6 to W8, F19 and F21); over any watch. Assumes nothing.
-use mathlib.Core.Bool.{true, cond}
+use mathlib.Core.Bool.{Bool, true, cond}
 use mathlib.Core.List.{List}
 use Prim.Native.Nat.{ℕ, zero, suc, _+_, _-_, min}
 use lib.Dec.{eqb, ltb}
@@ -123,6 +123,10 @@ stepWithin g y marks = moveBy g y marks (monitorsGo g y marks (y .monitors) 0 em
 abbrev pub stepOf : Given → Layout → (marks : List ℕ) → Move
 stepOf g y marks = stepWithin g (within y) marks
 
+-- whether a step that ended at monitor i, of m, ended at one that does not go on
+abbrev pub stuckAt : (i m : ℕ) → Bool
+stuckAt i m = ltb i (min m 32)
+
 -- the verdict of a step; W6: "the lowest monitor that does not fit"
 abbrev pub verdictOf : Layout → Move → Verdict
-verdictOf y a = cond (ltb (a .monitor) (within y .monitors)) (bad (a .monitor)) ok
+verdictOf y a = cond (stuckAt (a .monitor) (y .monitors)) (bad (a .monitor)) ok

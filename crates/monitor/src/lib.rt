@@ -1,5 +1,6 @@
-// The watch at work: `tick` takes a watch and a word to the answer and the new watch. For loops, which must not copy a watch,
-// `tables_of` lays its tables out once, and `step` is one tick on them.
+// The watch at work: `look` answers what a word would come to, and `take` answers the same and gives the watch that it moved on
+// to. For loops, which must not copy a watch, `tables_of` lays its tables out once; `refused_by`, `peek` or `step` on them, and
+// `is_bad` are what a look or a take is made of.
 // What they answer is said for every watch, also one that no call ever gave (specs/Calls.antt, specs/Ticks.antt).
 mod letters;
 mod marks;
@@ -20,10 +21,10 @@ use words::part0;
 ghost use mathlib.Core.Path.{_≡_};
 ghost use mathlib.Core.Bool.{true};
 ghost use mathlib.Core.List.{List, [], _∷_};
-ghost use Prim.Native.Nat.{ℕ, suc, _≤_, _<_};
+ghost use Prim.Native.Nat.{ℕ, suc, _≤_, _<_, min};
 ghost use Rattle.meaning.specs.Calls.{isStray};
 ghost use Rattle.monitor.specs.Letters.{given};
-ghost use Rattle.monitor.specs.Ticks.{layout, writeIf, writeMarked, move, stepOf};
+ghost use Rattle.monitor.specs.Ticks.{layout, reached, monitorsGo, writeIf, writeMarked, move, stepOf, stuckAt};
 ghost use Rattle.monitor.specs.Calls.{stateOf, withState, refusedBy, replyOf, watchAfter};
 ghost use Rattle.monitor.specs.Shown.{shownAnswer};
 
@@ -64,11 +65,81 @@ fn write_marked(
     }
 }
 
-// ---- one tick
+// ---- one word
 
-// One tick on lent tables, with the word before and its own: the first monitor that does not go on, or how many there are. Marks
-// and store values are then those after the tick, or as they were where one does not go on. No more than 32 monitors and 256
-// letters are looked at.
+// Every active position goes on, from an empty memory: the first monitor that does not, or how many there are. No more than 32
+// monitors and 256 letters are looked at. This is what a look and a take have in common.
+fn walk_on(
+    monitors: usize,
+    letters: usize,
+    marks: &[u8; 288],
+    places: &[u16; 256],
+    own: &[u16; 32],
+    firsts: &[u16; 32],
+    tables: &[[u64; 1024]; 4],
+    memory: &mut [u8; 1280],
+    words: &[u64; 2],
+    values: &[u64; 16],
+) -> usize
+    ensures { λ r. ⌜ reached r (now (memory .exit)) ≡ monitorsGo (given (now (tables .entry)) (now (values .entry)) (now (words .entry))) (layout (now (places .entry)) (now (own .entry)) (now (firsts .entry)) (min monitors 32) (min letters 256)) (now (marks .entry)) (min monitors 32) 0 (now (memory .entry)) ⌝ }
+{
+    let count = least(monitors, 32);
+    let end = least(letters, 256);
+    monitors_go(
+        count,
+        end,
+        marks,
+        places,
+        own,
+        firsts,
+        tables,
+        memory,
+        words,
+        values,
+    )
+}
+
+// Whether a walk that ended at a monitor, of so many, ended at one that does not go on.
+pub fn is_bad(monitor: usize, monitors: usize) -> bool
+    ensures { λ r. ⌜ r ≡ stuckAt monitor monitors ⌝ }
+{
+    monitor < least(monitors, 32)
+}
+
+// What a look does with a word that is not refused, on lent tables and with the word before: the first monitor that does not go
+// on, or how many there are.
+pub fn peek<'a>(
+    tables: &'a [[u64; 1024]; 4],
+    places: &'a [u16; 256],
+    own: &'a [u16; 32],
+    firsts: &'a [u16; 32],
+    monitors: usize,
+    letters: usize,
+    marks: &'a [u8; 288],
+    values: &'a [u64; 16],
+    past: u64,
+    word: u64,
+) -> usize
+    ensures { λ r. ⌜ r ≡ stepOf (given (now (tables .entry)) (now (values .entry)) (word ∷ past ∷ [])) (layout (now (places .entry)) (now (own .entry)) (now (firsts .entry)) monitors letters) (now (marks .entry)) .monitor ⌝ }
+{
+    let pair = [word, past];
+    let mut memory = [0u8; 1280];
+    walk_on(
+        monitors,
+        letters,
+        marks,
+        places,
+        own,
+        firsts,
+        tables,
+        &mut memory,
+        &pair,
+        values,
+    )
+}
+
+// What a take does with a word that is not refused: the same, and marks and store values are then those after the tick, or as they
+// were where a monitor does not go on. The tick count, the stop and the word before are the caller's to keep.
 pub fn step<'a>(
     tables: &'a [[u64; 1024]; 4],
     places: &'a [u16; 256],
@@ -83,13 +154,11 @@ pub fn step<'a>(
 ) -> usize
     ensures { λ r. ⌜ move r (now (marks .exit)) (now (values .exit)) ≡ stepOf (given (now (tables .entry)) (now (values .entry)) (word ∷ past ∷ [])) (layout (now (places .entry)) (now (own .entry)) (now (firsts .entry)) monitors letters) (now (marks .entry)) ⌝ }
 {
-    let count = least(monitors, 32);
-    let end = least(letters, 256);
     let words = [word, past];
     let mut memory = [0u8; 1280];
-    let monitor = monitors_go(
-        count,
-        end,
+    let monitor = walk_on(
+        monitors,
+        letters,
         marks,
         places,
         own,
@@ -99,11 +168,11 @@ pub fn step<'a>(
         &words,
         values,
     );
-    if monitor < count {
+    if is_bad(monitor, monitors) {
         return monitor;
     }
     put_marks(&memory, marks);
-    let writers = least(part0(tables[LETTERS][WRITERS]), end);
+    let writers = least(part0(tables[LETTERS][WRITERS]), least(letters, 256));
     write_marked(writers, &words, marks, tables, values);
     monitor
 }
@@ -118,7 +187,8 @@ pub enum Answer {
     Refused(u8),
 }
 
-pub struct Ticked {
+// What a take answers, and the watch for the next call.
+pub struct Taken {
     pub answer: Answer,
     pub watch: Watch,
 }
@@ -171,14 +241,41 @@ fn moved_on(watch: Watch, marks: [u8; 288], values: [u64; 16], word: u64) -> Wat
     next
 }
 
-// A call on a watch with a word: the answer and the new watch. A bad tick leaves the watch stopped and otherwise as before it; a
-// refused call leaves it as it was.
-pub fn tick(watch: Watch, word: u64) -> Ticked
+// What the word would come to. It leaves the watch: there is none to give back.
+pub fn look(watch: Watch, word: u64) -> Answer
+    ensures { λ r. ⌜ shownAnswer r ≡ replyOf watch word ⌝ }
+{
+    let refusal = refused_by(watch.stopped, watch.ticks, watch.wires, word);
+    if refusal != 0 {
+        return Answer::Refused(refusal);
+    }
+    let tables = tables_of(watch);
+    let monitor = peek(
+        &tables,
+        &watch.places,
+        &watch.own,
+        &watch.firsts,
+        watch.monitors,
+        watch.letters,
+        &watch.marks,
+        &watch.values,
+        watch.before,
+        word,
+    );
+    if is_bad(monitor, watch.monitors) {
+        return Answer::Bad(monitor);
+    }
+    Answer::Ok
+}
+
+// What the word comes to, and the watch after it. A bad tick leaves the watch stopped and otherwise as before it; a refused take
+// leaves it as it was.
+pub fn take(watch: Watch, word: u64) -> Taken
     ensures { λ r. ⌜ (shownAnswer (r .answer) ≡ replyOf watch word) × (r .watch ≡ watchAfter watch word) ⌝ }
 {
     let number = refused_by(watch.stopped, watch.ticks, watch.wires, word);
     if number != 0 {
-        return Ticked {
+        return Taken {
             answer: Answer::Refused(number),
             watch,
         };
@@ -198,15 +295,15 @@ pub fn tick(watch: Watch, word: u64) -> Ticked
         watch.before,
         word,
     );
-    if monitor < least(watch.monitors, 32) {
+    if is_bad(monitor, watch.monitors) {
         let next = stopped(watch);
-        return Ticked {
+        return Taken {
             answer: Answer::Bad(monitor),
             watch: next,
         };
     }
     let next = moved_on(watch, marks, values, word);
-    Ticked {
+    Taken {
         answer: Answer::Ok,
         watch: next,
     }

@@ -1,4 +1,4 @@
-// Ticks on watches that no opening gives, whose rows lead round in circles. A row is entered once a tick and leaving never forks, so
+// Looks and takes on watches that no opening gives, whose rows lead round in circles. A row is entered once a tick and leaving never forks, so
 // that each answer comes within some million calls (specs/Walk.antt of `monitor`); without that the first would take 2^4096.
 
 mod show;
@@ -54,8 +54,8 @@ fn marked(starts: u8) -> [u8; 288] {
     marks
 }
 
-// One tick of 32 monitors, each with row 0 as its own and the last with all 256 letters.
-fn tick(table: [u64; 1024], starts: u8) {
+// A look and a take of a word by 32 monitors, each with row 0 as its own and the last with all 256 letters.
+fn call(table: [u64; 1024], starts: u8) {
     let places = fourth();
     let marks = marked(starts);
     let watch = Watch {
@@ -79,20 +79,22 @@ fn tick(table: [u64; 1024], starts: u8) {
         ticks: 0,
         stopped: false,
     };
-    let ticked = monitor::tick(watch, 0);
-    let answer = ticked.answer;
-    show::answer(answer);
+    let looked = monitor::look(watch, 0);
+    show::answer(b"look ", looked);
+    let taken = monitor::take(watch, 0);
+    let answer = taken.answer;
+    show::answer(b"take ", answer);
 }
 
 fn main() {
     // each operand is the next row, or the row itself, or rows further on: no letter is ever reached
-    tick(circle(ALTERNATIVE, 1, 1, 1), 1);
-    tick(circle(ALTERNATIVE, 0, 0, 1), 1);
-    tick(circle(SEQUENCE, 2, 3, 5), 1);
+    call(circle(ALTERNATIVE, 1, 1, 1), 1);
+    call(circle(ALTERNATIVE, 0, 0, 1), 1);
+    call(circle(SEQUENCE, 2, 3, 5), 1);
     // stars around stars: each can be left, and the one above is asked again
-    tick(circle(STAR, 1, 0, 1), 1);
+    call(circle(STAR, 1, 0, 1), 1);
     // every letter is left up a long line, which ends
-    tick(line(ALTERNATIVE), 0);
+    call(line(ALTERNATIVE), 0);
     // and up one that does not
-    tick(circle(ALTERNATIVE, 1, 1, 1), 0);
+    call(circle(ALTERNATIVE, 1, 1, 1), 0);
 }

@@ -1,4 +1,4 @@
-// Prints answers.
+// Prints calls and their answers.
 use libc::STDOUT_FILENO;
 use monitor::Answer;
 
@@ -13,7 +13,9 @@ fn numbered(text: &[u8], n: u64) {
     print(b"\n");
 }
 
-pub fn answer(answer: Answer) {
+// A call, and what it was answered with.
+pub fn answer(call: &[u8], answer: Answer) {
+    print(call);
     match answer {
         Answer::Ok => print(b"ok\n"),
         Answer::Bad(monitor) => numbered(b"bad ", monitor as u64),

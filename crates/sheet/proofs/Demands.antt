@@ -36,7 +36,7 @@ use Rattle.meaning.specs.Viable.{Viable, Ample, Refusal}
 use Rattle.meaning.specs.Acceptance.{Written, Acceptable, TurnedAway}
 use Rattle.meaning.specs.Table.{laidAll}
 use Rattle.meaning.specs.Numbered.{numberedFrom}
-use Rattle.meaning.specs.Calls.{Reply, opening, standing, AllRightly}
+use Rattle.meaning.specs.Calls.{Call, look, take, Reply, opening, standing, taken, takenReplies, AllRightly}
 use Rattle.meaning.specs.Fit.{start}
 use Rattle.meaning.specs.Sheet.{sheet}
 use Rattle.meaning.proofs.Exactly as exactly
@@ -47,19 +47,27 @@ use Rattle.masks.proofs.passes.Statement as passes
 use Rattle.masks.proofs.passes.Met as passes-met
 use Rattle.rules.specs.Laying.{rowWord, codeOf}
 use Rattle.rules.specs.Watches.{watchOf}
+use Rattle.rules.specs.declared.Watch.{Watch}
 use Rattle.rules.proofs.open.Statement as open-text
 use Rattle.rules.proofs.open.Met as open-text-met
-use Rattle.monitor.specs.Calls.{repliesOf, watchAfterAll, Held}
+use Rattle.monitor.specs.Calls.{replyOf, watchAfter, repliesOf, watchAfterAll, Held}
 use Rattle.monitor.proofs.Program as program
 use Rattle.monitor.proofs.Calls as calls
+use Rattle.monitor.proofs.Looks as looks
+use Rattle.monitor.proofs.peek.Statement as peek
+use Rattle.monitor.proofs.peek.Met as peek-met
 use Rattle.monitor.proofs.step.Statement as step
 use Rattle.monitor.proofs.step.Met as step-met
 use Rattle.monitor.proofs.tables_of.Statement as tables-of
 use Rattle.monitor.proofs.tables_of.Met as tables-of-met
+use Rattle.monitor.proofs.is_bad.Statement as is-bad
+use Rattle.monitor.proofs.is_bad.Met as is-bad-met
 use Rattle.monitor.proofs.refused_by.Statement as refused-by
 use Rattle.monitor.proofs.refused_by.Met as refused-by-met
-use Rattle.monitor.proofs.tick.Statement as tick
-use Rattle.monitor.proofs.tick.Met as tick-met
+use Rattle.monitor.proofs.look.Statement as look-at
+use Rattle.monitor.proofs.look.Met as look-at-met
+use Rattle.monitor.proofs.take.Statement as take-word
+use Rattle.monitor.proofs.take.Met as take-word-met
 use Rattle.sheet.specs.Pieces.{joined, printedInPieces}
 use Rattle.sheet.proofs.Pieces as pieces
 use Rattle.sheet.proofs.begin.Statement as begin
@@ -81,8 +89,11 @@ use Rattle.sheet.proofs.linewatch_write_record.Met as write-record-met
 pub open-entry : {M : Type 1} → open-text.statement M
 open-entry = open-text-met.met
 
-pub tick-entry : {M : Type 1} → tick.statement M
-tick-entry = tick-met.met
+pub look-entry : {M : Type 1} → look-at.statement M
+look-entry = look-at-met.met
+
+pub take-entry : {M : Type 1} → take-word.statement M
+take-entry = take-word-met.met
 
 -- for C: the printed sheet, and the record of a word
 pub sheet-entry : {M : Type 1} → linewatch-sheet.statement M
@@ -101,9 +112,15 @@ run-entry = run-met.met
 pub finish-entry : {M : Type 1} → finish.statement M
 finish-entry = finish-met.met
 
--- one tick on lent tables, a watch's tables, and 16, 17, 15
+-- what a look and a take do on lent tables with a word that is not refused, whether that ended at a monitor that does not go on, a watch's tables, and 16, 17, 15
+pub peek-entry : {M : Type 1} → peek.statement M
+peek-entry = peek-met.met
+
 pub step-entry : {M : Type 1} → step.statement M
 step-entry = step-met.met
+
+pub is-bad-entry : {M : Type 1} → is-bad.statement M
+is-bad-entry = is-bad-met.met
 
 pub tables-of-entry : {M : Type 1} → tables-of.statement M
 tables-of-entry = tables-of-met.met
@@ -188,19 +205,44 @@ no-two-alike = traces.read-unique
 
 -- ---- Demand 3: every list of calls, and the printed sheet
 
--- For every accepted text and every list of calls from its opening on, there is a reply to each call, and it is the right one for that call and those before it.
-pub calls-rightly : (text : List ℕ) (o : Opened) → openText text ≡ value o → (ws : List ℕ)
-    → (length (repliesOf (watchOf (value o)) ws) ≡ length ws) × AllRightly (o .monitors) (o .initial) (o .wires) ws (repliesOf (watchOf (value o)) ws)
-calls-rightly text o e ws =
-    subst (λ (rs : List Reply). (length rs ≡ length ws) × AllRightly (o .monitors) (o .initial) (o .wires) ws rs) (sym (calls.calls-answered text o e ws)) (
-      length-replies (o .monitors) (o .initial) (o .wires) (opening (start (o .initial))) ws,
-      replies-rightly (o .monitors) (o .initial) (o .wires) ws,
+-- For every accepted text and every list of looks and takes from its opening on, there is a reply to each call, and it is the right one for that call's word and the takes
+-- before it.
+pub calls-rightly : (text : List ℕ) (o : Opened) → openText text ≡ value o → (cs : List Call)
+    → (length (repliesOf (watchOf (value o)) cs) ≡ length cs) × AllRightly (o .monitors) (o .initial) (o .wires) cs (repliesOf (watchOf (value o)) cs)
+calls-rightly text o e cs =
+    subst (λ (rs : List Reply). (length rs ≡ length cs) × AllRightly (o .monitors) (o .initial) (o .wires) cs rs) (sym (calls.calls-answered text o e cs)) (
+      length-replies (o .monitors) (o .initial) (o .wires) (opening (start (o .initial))) cs,
+      replies-rightly (o .monitors) (o .initial) (o .wires) cs,
     )
 
 -- And the watch then has the tick count, the stop, the word before and the store values that the meaning fixes; all else of it but the marks is as opening gave it.
-pub watch-held : (text : List ℕ) (o : Opened) → openText text ≡ value o → (ws : List ℕ)
-    → Held (watchOf (value o)) (watchAfterAll (watchOf (value o)) ws) (standing (o .monitors) (o .initial) (o .wires) ws)
+pub watch-held : (text : List ℕ) (o : Opened) → openText text ≡ value o → (cs : List Call)
+    → Held (watchOf (value o)) (watchAfterAll (watchOf (value o)) cs) (standing (o .monitors) (o .initial) (o .wires) cs)
 watch-held = calls.watch-held
+
+-- What comes of looks among takes. These follow from how calls go one behind the other (`repliesOf`, `watchAfterAll`); the code is bound to that by `look-entry` and
+-- `take-entry`, which have one `replyOf`, and by `look` having no watch to give back.
+
+-- On every watch, a look and then a take of the same word: both have the word's answer, and all goes on from the watch after that word.
+pub look-then-take : (v : Watch) (w : ℕ) (cs : List Call)
+    → (repliesOf v (look w ∷ take w ∷ cs) ≡ replyOf v w ∷ replyOf v w ∷ repliesOf (watchAfter v w) cs)
+    × (watchAfterAll v (look w ∷ take w ∷ cs) ≡ watchAfterAll (watchAfter v w) cs)
+look-then-take = looks.look-then-take
+
+-- On every watch, between any calls: a look has the answer that a take of its word in its place has, the answers before and behind it are those without it, and so is the
+-- watch after all.
+pub look-anywhere : (v : Watch) (bs : List Call) (w : ℕ) (cs : List Call)
+    → let u = watchAfterAll v bs in
+    (repliesOf v (bs ++ take w ∷ cs) ≡ repliesOf v bs ++ replyOf u w ∷ repliesOf (watchAfter u w) cs)
+    × (repliesOf v (bs ++ look w ∷ cs) ≡ repliesOf v bs ++ replyOf u w ∷ repliesOf u cs)
+    × (repliesOf v (bs ++ cs) ≡ repliesOf v bs ++ repliesOf u cs)
+    × (watchAfterAll v (bs ++ look w ∷ cs) ≡ watchAfterAll v (bs ++ cs))
+look-anywhere = looks.look-anywhere
+
+-- On every watch: of any calls, the takes have the answers that they have alone, and they alone leave the same watch.
+pub takes-alone : (v : Watch) (cs : List Call)
+    → (takenReplies cs (repliesOf v cs) ≡ repliesOf v (map take (taken cs))) × (watchAfterAll v cs ≡ watchAfterAll v (map take (taken cs)))
+takes-alone v cs = (looks.replies-to-takes v cs, looks.watch-by-takes v cs)
 
 -- However a trace is cut into pieces, `begin`, a `run` over each piece and `finish` print the sheet. (In one go: `sheet-entry` says it of `linewatch_sheet`.)
 pub sheet-in-pieces : (text : List ℕ) (cut : List (List ℕ)) → printedInPieces text cut ≡ sheet text (joined cut)

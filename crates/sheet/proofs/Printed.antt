@@ -17,7 +17,7 @@ use Rattle.meaning.specs.Answers.{Answer, value, refused}
 use Rattle.meaning.specs.Opening.{Opened, counts, countsOf, openText}
 use Rattle.meaning.specs.Fit.{History, start, judged, onward}
 use Rattle.meaning.specs.Calls as calls
-use Rattle.meaning.specs.Calls.{Reply, ok, bad, State, opening, reply, after, repliesFrom}
+use Rattle.meaning.specs.Calls.{Call, take, Reply, ok, bad, State, opening, reply, after, repliesFrom}
 use Rattle.meaning.specs.Sheet.{tickLines, sheet, countsLine, refusalLine}
 use Rattle.rules.specs.declared.Watch.{Watch}
 use Rattle.rules.specs.Watches.{watchOf}
@@ -25,7 +25,7 @@ use Rattle.monitor.specs.Calls.{replyOf, watchAfter, repliesOf}
 use Rattle.monitor.proofs.Calls.{calls-answered}
 use Rattle.sheet.specs.Lines.{okLine, badLine, run, ran, runOn, onRead, onReply, closed, sheetOf}
 
--- an ok call counts
+-- an ok take counts
 ok-ticks : (v : Watch) (w : ℕ) → replyOf v w ≡ ok → watchAfter v w .ticks ≡ suc (v .ticks)
 unfolding watchAfter
 ok-ticks v w e = rw e
@@ -33,19 +33,19 @@ ok-ticks v w e = rw e
 module _ (o : Opened) where
   -- from here on every list of calls gets the meaning's replies
   abbrev Agree : Watch → State History → Type 0
-  Agree v s = (ws : List ℕ) → repliesOf v ws ≡ repliesFrom (judged (o .monitors)) (onward (o .monitors)) (o .wires) s ws
+  Agree v s = (cs : List Call) → repliesOf v cs ≡ repliesFrom (judged (o .monitors)) (onward (o .monitors)) (o .wires) s cs
 
   abbrev replied : State History → ℕ → Reply
   replied s w = reply (judged (o .monitors)) (o .wires) s w
 
   agree-reply : (v : Watch) (s : State History) → Agree v s → (w : ℕ) (r : Reply) → replyOf v w ≡ r → replied s w ≡ r
   unfolding repliesOf repliesFrom
-  agree-reply v s a w r e = sym (ap (λ (rs : List Reply). getD rs 0 ok) (a (w ∷ []))) ∙ e
+  agree-reply v s a w r e = sym (ap (λ (rs : List Reply). getD rs 0 ok) (a (take w ∷ []))) ∙ e
 
   agree-after : (v : Watch) (s : State History) → Agree v s → (w : ℕ) (r : Reply) → replied s w ≡ r → Agree (watchAfter v w) (after (onward (o .monitors)) s w r)
   unfolding repliesOf repliesFrom
   agree-after v s a w r e =
-      subst (λ (x : Reply). Agree (watchAfter v w) (after (onward (o .monitors)) s w x)) e (λ ws. ap (λ (rs : List Reply). drop 1 rs) (a (w ∷ ws)))
+      subst (λ (x : Reply). Agree (watchAfter v w) (after (onward (o .monitors)) s w x)) e (λ cs. ap (λ (rs : List Reply). drop 1 rs) (a (take w ∷ cs)))
 
   -- a run of k records, and then the last line, prints the meaning's lines
   abbrev Prints : ℕ → Type 0

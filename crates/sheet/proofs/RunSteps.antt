@@ -4,7 +4,7 @@ use mathlib.Core.Bool.{Bool, true, false, cond}
 use mathlib.Core.List.{List, [], _∷_, _++_, append-assoc}
 use Prim.Native.Nat.{ℕ, zero, suc, _+_, _-_, _*_, _<_, _≤_, min}
 use native.Mathlib.Omega.{arith}
-use borrow.Author.Tests.{eq-eqb, ne-eqb, lt-ltb, le-ltb, ltb-true, ltb-false}
+use borrow.Author.Tests.{eq-eqb, ne-eqb, ltb-true, ltb-false}
 use lib.Dec.{ltb}
 use lib.ListN.{length, take, drop, length-drop, length-append}
 use lib.Seq.{sets, drop-drop, length-sets}
@@ -21,24 +21,14 @@ use Rattle.rules.specs.declared.Watch.{Watch}
 use Rattle.rules.proofs.Overlay.{sets-behind}
 use Rattle.monitor.specs.Calls.{stateOf, withState, tablesOf, givenOf, layoutOf, stepFrom, refusedBy, replyOf, watchAfter}
 use Rattle.monitor.specs.Letters.{Given, given}
-use Rattle.monitor.specs.Ticks.{Layout, within, Reached, Move, move, moveBy, marksAfter, writeMarked, writers, monitorsGo, emptyMemory, stepWithin, stepOf}
-use Rattle.monitor.proofs.TickSteps.{lent-step, call-refused, call-bad, call-ok, few-ticks, one-tick}
+use Rattle.monitor.specs.Ticks.{Layout, within, Reached, Move, move, moveBy, marksAfter, writeMarked, writers, monitorsGo, emptyMemory, stepWithin, stepOf, stuckAt}
+use Rattle.monitor.proofs.TickSteps.{lent-step, take-refused, take-bad, take-ok, few-ticks, one-tick}
 use Rattle.sheet.specs.Lines.{Run, run, Ran, ran, printing, onReply, onRead, okLine, badLine, runOn, runOver}
 use Rattle.sheet.specs.Items.{itemOf}
 use Rattle.sheet.specs.declared.ticking.Item.{Item as CodeItem}
 use Rattle.sheet.specs.declared.ticking.Ran.{Ran as CodeRan}
 
 -- ---- the code's helpers
-
-pub not-bad : (m n : ℕ) → 32 ≤ m → false ≡ ltb m (min n 32)
-not-bad m n h = sym (le-ltb m (min n 32) (omega arith))
-
-pub below-bad : (m n : ℕ) → m < 32 → ltb m n ≡ ltb m (min n 32)
-below-bad m n h = by (ltb m n) refl
-  where
-    by : (b : Bool) → ltb m n ≡ b → b ≡ ltb m (min n 32)
-    by true e = sym (lt-ltb m (min n 32) (omega (arith, ltb-true m n e)))
-    by false e = sym (le-ltb m (min n 32) (omega (arith, ltb-false m n e)))
 
 -- the reader answered r, which was found to be s
 pub item-read : (rest : List ℕ) (before : ℕ) (r s : Read) → shownRead r ≡ readRecord rest before → r ≡ s → itemOf (shownRead s) ≡ itemOf (readRecord rest before)
@@ -239,7 +229,7 @@ module _ {v₀ : Watch} {b₀ : ℕ} {records out₀ : List ℕ} {at : ℕ} {out
       module _ (k : ℕ) (d : k ≡ refusedBy (v .stopped) (v .ticks) (v .wires) w) where
         pub going-refused : (k ≡ 0 → ⊥) → Leaves (refusalLine k (v .ticks ∷ [])) (run v last) true
         going-refused h new stop =
-            let c = call-refused v w k d h in
+            let c = take-refused v w k d h in
             going-left (refusalLine k (v .ticks ∷ [])) (run v last) true new stop
             (replied-with (calls.refused k 0) (sym (c .0))
             ∙ ap (λ (u : Watch). ran (refusalLine k (v .ticks ∷ [])) (run u last) rest true) (sym (c .1)))
@@ -248,7 +238,7 @@ module _ {v₀ : Watch} {b₀ : ℕ} {records out₀ : List ℕ} {at : ℕ} {out
         going-few q = few-ticks v w k d q
 
         module _ (q : k ≡ 0) (t : List (List ℕ)) (lent : t ≡ tablesOf v) (i : ℕ) (K σ : List ℕ) (stepped : move i K σ ≡ stepOf (given t (v .values) (w ∷ v .before ∷ [])) (layoutOf v) (v .marks))
-            (b : Bool) (f : b ≡ ltb i (min (v .monitors) 32)) where
+            (b : Bool) (f : b ≡ stuckAt i (v .monitors)) where
           s : move i K σ ≡ stepFrom v (stateOf v .inner) w
           s = lent-step v (stateOf v .inner) w t (move i K σ) lent stepped
 
@@ -257,7 +247,7 @@ module _ {v₀ : Watch} {b₀ : ℕ} {records out₀ : List ℕ} {at : ℕ} {out
               let u = withState v (record { inner = record { marks = K; values = σ; last = v .before }; oks = v .ticks; stopped = true }) in
               let h = ltb-true i (min (v .monitors) 32) (sym f ∙ y) in
               let t = ap (λ (x : Move). withState v (record { inner = record { marks = x .marks; values = x .values; last = v .before }; oks = v .ticks; stopped = true })) (bad-keeps (givenOf v (v .values) (w ∷ v .before ∷ [])) (layoutOf v) (v .marks) i K σ s h) in
-              let c = call-bad v w k d q i (min (v .monitors) 32) K σ s refl u h t in
+              let c = take-bad v w k d q i K σ s b f u y t in
               going-left (badLine (v .ticks) w i) (run u last) true new stop
               (replied-with (calls.bad i) (sym (c .0))
               ∙ ap (λ (u : Watch). ran (badLine (v .ticks) w i) (run u last) rest true) (sym (c .1)))
@@ -268,7 +258,7 @@ module _ {v₀ : Watch} {b₀ : ℕ} {records out₀ : List ℕ} {at : ℕ} {out
           pub going-ok : b ≡ false → (new : List ℕ) (stop : ℕ) → new ≡ sets out place (okLine (v .ticks) w) → stop ≡ place + length (okLine (v .ticks) w)
               → length (okLine (v .ticks) w) ≤ 64 → Going v₀ b₀ records out₀ at new next w (used + n) stop
           going-ok y new stop g h l =
-              let c = call-ok v w k d q i (min (v .monitors) 32) K σ s refl next (ltb-false i (min (v .monitors) 32) (sym f ∙ y)) (one-tick v K σ w) in
+              let c = take-ok v w k d q i K σ s b f next y (one-tick v K σ w) in
               let t = few-ticks v w k d q in
               let a = length-append (m .done) (okLine (v .ticks) w) in
               record {

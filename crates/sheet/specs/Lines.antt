@@ -50,7 +50,7 @@ ran p s rest b = record { printed = p; after = s; left = rest; ended = b }
 abbrev pub printing : List ℕ → Ran → Ran
 printing p x = ran (p ++ x .printed) (x .after) (x .left) (x .ended)
 
--- the call with word w of a record of n bytes: an ok line goes on behind the record, any other ends; P4: "and ends the sheet", P5: the same
+-- the take of word w of a record of n bytes: an ok line goes on behind the record, any other ends; P4: "and ends the sheet", P5: the same
 abbrev pub onReply : calls.Reply → Run → (rest : List ℕ) → (w n : ℕ) → (Run → List ℕ → Ran) → Ran
 onReply calls.ok s rest w n next = printing (okLine (s .watch .ticks) w) (next (run (watchAfter (s .watch) w) w) (drop n rest))
 onReply (calls.bad m) s rest w n next = ran (badLine (s .watch .ticks) w m) (run (watchAfter (s .watch) w) (s .before)) rest true

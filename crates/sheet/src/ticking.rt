@@ -5,6 +5,7 @@ use super::lines::put_bad;
 use super::lines::put_ok;
 use super::lines::put_refusal;
 use super::page::pairs;
+use monitor::is_bad;
 use monitor::refused_by;
 use monitor::step;
 use monitor::tables_of;
@@ -12,8 +13,7 @@ use rules::Watch;
 use trace::Read;
 use trace::read_record;
 ghost use mathlib.Core.Path.{_≡_};
-ghost use Prim.Native.Nat.{ℕ, _+_, _<_, _≤_, min};
-ghost use lib.Dec.{ltb};
+ghost use Prim.Native.Nat.{ℕ, _+_, _<_, _≤_};
 ghost use lib.ListN.{length, drop};
 ghost use lib.Seq.{sets};
 ghost use Rattle.trace.specs.Record.{readRecord};
@@ -54,16 +54,6 @@ fn read_item(rest: &[u8], before: u64) -> Item
             length: 0,
         },
     }
-}
-
-// Whether a step ended at a monitor that does not go on.
-fn is_bad(monitor: usize, monitors: usize) -> bool
-    ensures { λ r. ⌜ r ≡ ltb monitor (min monitors 32) ⌝ }
-{
-    if 32 <= monitor {
-        return false;
-    }
-    monitor < monitors
 }
 
 // What a run over some bytes comes to: the watch and the word before the next record; how many bytes were used; the place

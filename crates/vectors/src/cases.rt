@@ -9,14 +9,14 @@ use crate::show;
 // No place in a file.
 const NOWHERE: usize = usize::MAX;
 
-fn wide(byte: u8) -> usize
+pub(crate) fn wide(byte: u8) -> usize
     ensures { λ r. ⌜ r < 256 ⌝ }
 {
     byte as usize
 }
 
 // The length of the part at `at`.
-fn length_at(file: &[u8], at: usize) -> usize
+pub(crate) fn length_at(file: &[u8], at: usize) -> usize
     requires { ⌜ at + 4 ≤ length (now file) ⌝ }
 {
     wide(file[at])

@@ -1,4 +1,5 @@
 // What the program prints: a line for each case that differs, and one for each list of cases.
+use libc::STDERR_FILENO;
 use libc::STDOUT_FILENO;
 
 pub fn print(text: &[u8]) {
@@ -24,4 +25,9 @@ pub fn tally(list: &[u8], cases: usize, differ: usize) {
     print(b" cases, ");
     number(differ);
     print(b" differ\n");
+}
+
+// A line on standard error.
+pub fn complain(text: &[u8]) {
+    io::write_all(STDERR_FILENO, text);
 }

@@ -4,6 +4,7 @@ use mathlib.Core.List.{[], _∷_}
 use borrow.Author.Needs.{needs}
 use Rattle.monitor.proofs.TickSteps.{step-stops, step-moves}
 use Rattle.monitor.specs.Letters.{given}
+use Rattle.monitor.specs.Ticks.{layout}
 use Rattle.monitor.proofs.step.Statement.{statement}
 use Rattle.monitor.proofs.step.Tie as tie
 
@@ -13,19 +14,19 @@ step-spec =
     (tie.spec
     (λ c κs. search needs)
     (λ c κs. search needs)
-    (λ c κs. search needs)
     (λ c.
-    let a = c .before .before .before .before .before .before .before .before .args in
+    let a = c .before .before .before .before .before .before .before .args in
     let g = given (a .tables .now) (a .values .now) (a .word ∷ a .past ∷ []) in
-    step-stops g (a .places .now) (a .own .now) (a .firsts .now) (a .monitors) (a .letters) _ _ (a .marks .now) _ _ (c .before .before .before .before .before .before .before .least .ensures) (c .before .before .before .before .before .before .least2 .ensures) (c .before .monitors-go .ensures) (c .if1 .taken))
+    step-stops g (layout (a .places .now) (a .own .now) (a .firsts .now) (a .monitors) (a .letters)) (a .marks .now) _ _ (c .before .before .walk-on .ensures) _ (c .before .is-bad .ensures) (c .if1 .taken))
     (λ c κs. search needs)
     (λ c. search needs)
     (λ c. search needs)
+    (λ c κs. search needs)
     (λ c κs. search needs)
     (λ c κs. search needs)
     (λ c κs. search needs)
     (λ c.
     let a = c .before .before .before .before .before .before .before .before .before .before .before .before .before .before .before .before .before .before .args in
     let g = given (a .tables .now) (a .values .now) (a .word ∷ a .past ∷ []) in
-    step-moves g (a .places .now) (a .own .now) (a .firsts .now) (a .monitors) (a .letters) _ _ (a .marks .now) _ _ (c .before .before .before .before .before .before .before .before .before .before .before .before .before .before .before .before .before .least .ensures) (c .before .before .before .before .before .before .before .before .before .before .before .before .before .before .before .before .least2 .ensures) (c .before .before .before .before .before .before .before .before .before .before .before .monitors-go .ensures) (c .before .before .before .before .before .before .before .before .before .before .if1 .left)
-    _ _ (c .before .before .before .before .before .before .before .put-marks .ensures) _ _ (c .before .before .before .before .before .part0 .ensures) (c .before .before .before .before .least3 .ensures) (c .write-marked .ensures _)))
+    step-moves g (layout (a .places .now) (a .own .now) (a .firsts .now) (a .monitors) (a .letters)) (a .marks .now) _ _ (c .before .before .before .before .before .before .before .before .before .before .before .before .before .walk-on .ensures) _ (c .before .before .before .before .before .before .before .before .before .before .before .before .is-bad .ensures) (c .before .before .before .before .before .before .before .before .before .before .before .if1 .left)
+    _ _ (c .before .before .before .before .before .before .before .before .put-marks .ensures) _ _ _ (c .before .before .before .before .before .before .part0 .ensures) (c .before .before .before .before .before .least .ensures) (c .before .before .before .before .least2 .ensures) (c .write-marked .ensures _)))

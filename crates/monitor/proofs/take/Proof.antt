@@ -1,17 +1,17 @@
--- `monitor::tick` meets its contract.
+-- `monitor::take` meets its contract.
 -- Assumes nothing.
 use borrow.Author.Needs.{needs}
 use Rattle.monitor.specs.Calls.{stateOf}
-use Rattle.monitor.proofs.TickSteps.{lent-step, call-refused, call-bad, few-ticks, call-ok}
-use Rattle.monitor.proofs.tick.Statement.{statement}
-use Rattle.monitor.proofs.tick.Tie as tie
+use Rattle.monitor.proofs.TickSteps.{lent-step, take-refused, take-bad, few-ticks, take-ok}
+use Rattle.monitor.proofs.take.Statement.{statement}
+use Rattle.monitor.proofs.take.Tie as tie
 
-pub tick-spec : {M : Type 1} → statement M
-tick-spec =
+pub take-spec : {M : Type 1} → statement M
+take-spec =
     tie.close
     (tie.spec
     (λ c κs. search needs)
-    (λ c. call-refused _ _ _ (c .before .refused-by .ensures) (c .if1 .taken))
+    (λ c. take-refused _ _ _ (c .before .refused-by .ensures) (c .if1 .taken))
     (λ c κs. search needs)
     (λ c κs. search needs)
     (λ c κs. search needs)
@@ -21,7 +21,7 @@ tick-spec =
     let j = t .before in
     let a = j .before .before .args in
     let s = lent-step (a .t1) (stateOf (a .t1) .inner) (a .word) _ _ (t .tables-of .ensures) (c .before .before .before .step .ensures) in
-    call-bad (a .t1) (a .word) _ (j .before .refused-by .ensures) (j .if1 .left) _ _ _ _ s (c .before .before .least .ensures) _ (c .before .if2 .taken) (c .stopped .ensures))
+    take-bad (a .t1) (a .word) _ (j .before .refused-by .ensures) (j .if1 .left) _ _ _ s _ (c .before .before .is-bad .ensures) _ (c .before .if2 .taken) (c .stopped .ensures))
     (λ c κs.
     let j = c .before .before .before .before .before .before .before .before .before .before .before .before .before in
     let a = j .before .before .args in
@@ -31,4 +31,4 @@ tick-spec =
     let j = t .before in
     let a = j .before .before .args in
     let s = lent-step (a .t1) (stateOf (a .t1) .inner) (a .word) _ _ (t .tables-of .ensures) (c .before .before .before .step .ensures) in
-    call-ok (a .t1) (a .word) _ (j .before .refused-by .ensures) (j .if1 .left) _ _ _ _ s (c .before .before .least .ensures) _ (c .before .if2 .left) (c .moved-on .ensures)))
+    take-ok (a .t1) (a .word) _ (j .before .refused-by .ensures) (j .if1 .left) _ _ _ s _ (c .before .before .is-bad .ensures) _ (c .before .if2 .left) (c .moved-on .ensures)))

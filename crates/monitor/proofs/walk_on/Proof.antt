@@ -1,0 +1,19 @@
+-- `monitor::walk_on` meets its contract.
+-- Assumes nothing.
+use borrow.Author.Needs.{needs}
+use Rattle.monitor.proofs.TickSteps.{walk-within}
+use Rattle.monitor.specs.Letters.{given}
+use Rattle.monitor.proofs.walk_on.Statement.{statement}
+use Rattle.monitor.proofs.walk_on.Tie as tie
+
+pub walk-on-spec : {M : Type 1} → statement M
+walk-on-spec =
+    tie.close
+    (tie.spec
+    (λ c κs. search needs)
+    (λ c κs. search needs)
+    (λ c κs. search needs)
+    (λ c.
+    let a = c .before .before .before .before .args in
+    let g = given (a .tables .now) (a .values .now) (a .words .now) in
+    walk-within g (a .places .now) (a .own .now) (a .firsts .now) (a .monitors) (a .letters) (a .marks .now) (a .memory .now) _ _ _ (c .before .before .before .least .ensures) (c .before .before .least2 .ensures) (c .monitors-go .ensures)))

@@ -1,0 +1,113 @@
+//! Random looks and takes through a program that answers cases, and through `second`: `calls N SEED PROGRAM [ARGUMENT..]`. Both must print the same. A case that
+//! differs is made small and saved under `target/fuzz/`, in a folder named by its seed. Where answers end early, the case without one differs, and the run ends.
+
+use fuzz::calls::{self, Met};
+use fuzz::random::Random;
+use fuzz::{save, shrink, Case};
+use second::stage::{self, Entry, Said};
+use std::ffi::OsString;
+use std::io;
+use std::path::Path;
+use std::process::ExitCode;
+
+/// Cases that are put to the program at once.
+const LOT: usize = 4096;
+
+/// So many cases that differ are made small and saved; the others are only named.
+const SAVED: u64 = 10;
+
+/// A program and its arguments.
+struct Asked<'a>(&'a OsString, &'a [OsString]);
+
+impl Asked<'_> {
+    fn ask(&self, entries: &[Entry]) -> io::Result<Said> {
+        stage::ask(self.0, self.1, entries)
+    }
+
+    /// Whether the program, asked a case alone, answers otherwise than `second`, or not at all.
+    fn fails(&self, case: &Case) -> bool {
+        let entry = calls::entry(case);
+        self.ask(std::slice::from_ref(&entry)).is_ok_and(|said| said.answers != [entry.answer])
+    }
+}
+
+#[derive(Default)]
+struct Tally {
+    cases: u64,
+    differences: u64,
+    met: Met,
+}
+
+impl Tally {
+    /// Puts the cases of some seeds to the program and compares; says what it did wrong besides answering wrongly.
+    fn run(&mut self, asked: &Asked, seeds: &[u64]) -> io::Result<Option<String>> {
+        let cases: Vec<Case> = seeds.iter().map(|&seed| calls::case(&mut Random::new(seed))).collect();
+        let entries: Vec<Entry> = cases.iter().map(calls::entry).collect();
+        let said = asked.ask(&entries)?;
+        let compared = entries.len().min(said.answers.len() + 1);
+        for (i, entry) in entries.iter().enumerate().take(compared) {
+            self.met.count(&entry.answer);
+            if said.answers.get(i) != Some(&entry.answer) {
+                self.differ(asked, seeds[i], &cases[i])?;
+            }
+        }
+        self.cases += compared as u64;
+        let missing = (said.answers.len() < entries.len()).then(|| String::from("answers are missing"));
+        Ok(said.fault.or(missing))
+    }
+
+    fn differ(&mut self, asked: &Asked, seed: u64, case: &Case) -> io::Result<()> {
+        self.differences += 1;
+        if self.differences > SAVED {
+            println!("differs: seed {seed}");
+            return Ok(());
+        }
+        let folder = format!("target/fuzz/calls-{seed}");
+        let small = shrink::shrink(case.clone(), calls::LENGTH, |case| asked.fails(case));
+        save::save_calls(Path::new(&folder), &small)?;
+        println!("differs: seed {seed}, saved in {folder}");
+        Ok(())
+    }
+
+    fn print(&self) {
+        for (kind, n) in &self.met.kinds {
+            println!("{n:8} {kind}");
+        }
+        println!("{:8} bad looks behind which a take was ok", self.met.went_on);
+        println!("{} cases, {} differences", self.cases, self.differences);
+    }
+}
+
+/// Runs all cases, in lots, until the program is at fault; whether there was nothing wrong.
+fn run(count: u64, first: u64, asked: &Asked) -> bool {
+    println!("{count} cases of looks and takes from seed {first}");
+    let mut tally = Tally::default();
+    let mut fault = None;
+    for begin in (0..count).step_by(LOT) {
+        let seeds: Vec<u64> = (begin..count).take(LOT).map(|i| first.wrapping_add(i)).collect();
+        fault = tally.run(asked, &seeds).unwrap_or_else(|error| Some(error.to_string()));
+        if fault.is_some() {
+            break;
+        }
+    }
+    tally.print();
+    if let Some(fault) = &fault {
+        println!("{}: {fault}", asked.0.to_string_lossy());
+    }
+    tally.differences == 0 && fault.is_none()
+}
+
+fn number(argument: &OsString) -> Option<u64> {
+    argument.to_str()?.parse().ok()
+}
+
+fn main() -> ExitCode {
+    let arguments: Vec<OsString> = std::env::args_os().skip(1).collect();
+    if let [count, first, program, arguments @ ..] = arguments.as_slice() {
+        if let (Some(count), Some(first)) = (number(count), number(first)) {
+            return ExitCode::from(u8::from(!run(count, first, &Asked(program, arguments))));
+        }
+    }
+    eprintln!("usage: calls N SEED PROGRAM [ARGUMENT..]");
+    ExitCode::from(2)
+}

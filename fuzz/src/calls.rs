@@ -1,0 +1,229 @@
+//! Looks and takes for a grown case: its words are taken, and among them stand looks, at the word that is then taken, at that word but for a bit, at the word
+//! before, at any word and at a stray one, and stray takes. Behind the last word, bad or not, stand a few calls of any words. Number 17 is not met here: it
+//! takes a million takes, and is left to other tests.
+
+use crate::compare::words;
+use crate::random::Random;
+use crate::{grow, Case};
+use second::stage::Entry;
+use std::collections::BTreeMap;
+
+/// Bytes of a call: `L` for a look or `T` for a take, and its word, lowest byte first.
+pub const LENGTH: usize = 9;
+const LOOK: u8 = b'L';
+const TAKE: u8 = b'T';
+
+/// Calls that are being made.
+struct Row<'r> {
+    random: &'r mut Random,
+    wires: usize,
+    bytes: Vec<u8>,
+}
+
+impl Row<'_> {
+    fn put(&mut self, letter: u8, word: u64) {
+        self.bytes.push(letter);
+        self.bytes.extend(word.to_le_bytes());
+    }
+
+    /// Any word within the wires.
+    fn any(&mut self) -> u64 {
+        self.random.word() & u64::MAX.checked_shr(64 - self.wires as u32).unwrap_or(0)
+    }
+
+    /// The word but for one wire.
+    fn changed(&mut self, word: u64) -> u64 {
+        word ^ 1 << self.random.below(self.wires.max(1))
+    }
+
+    /// The word with a bit above the wires, if there is room for one.
+    fn stray(&mut self, word: u64) -> u64 {
+        match 64 - self.wires {
+            0 => word,
+            above => word | 1 << (self.wires + self.random.below(above)),
+        }
+    }
+
+    /// A word to look at before another is taken.
+    fn looked_at(&mut self, word: u64, before: u64) -> u64 {
+        match self.random.below(9) {
+            0..=2 => word,
+            3..=5 => self.changed(word),
+            6 => before,
+            7 => self.any(),
+            _ => self.stray(word),
+        }
+    }
+
+    /// Some looks, for some words a stray take, and the take.
+    fn put_tick(&mut self, word: u64, before: u64) {
+        for _ in 0..*self.random.pick(&[0, 0, 1, 1, 2, 4]) {
+            let looked_at = self.looked_at(word, before);
+            self.put(LOOK, looked_at);
+        }
+        if self.random.once_in(8) {
+            let stray = self.stray(word);
+            self.put(TAKE, stray);
+        }
+        self.put(TAKE, word);
+    }
+
+    /// Looks and takes of any words, some of them stray.
+    fn put_more(&mut self) {
+        for _ in 0..1 + self.random.below(6) {
+            let letter = *self.random.pick(&[LOOK, TAKE]);
+            let any = self.any();
+            let word = if self.random.once_in(4) { self.stray(any) } else { any };
+            self.put(letter, word);
+        }
+    }
+}
+
+/// A grown case with calls in the place of its trace.
+pub fn case(random: &mut Random) -> Case {
+    let Case { text, trace } = grow::case(random);
+    let wires = second::open(&text).map_or(64, |program| program.wires() as usize);
+    let mut row = Row { random, wires, bytes: Vec::new() };
+    let mut before = 0;
+    for word in words(&trace) {
+        row.put_tick(word, before);
+        before = word;
+    }
+    row.put_more();
+    Case { text, trace: row.bytes }
+}
+
+/// What `second` prints for a case with calls.
+pub fn answer(case: &Case) -> Vec<u8> {
+    second::answer_calls(&case.text, &case.trace).expect("the calls are whole")
+}
+
+/// A case with calls as it is put to a program. Its first string names requests; no program here takes notice of it.
+pub fn entry(case: &Case) -> Entry {
+    let strings = vec![Vec::new(), case.text.clone(), case.trace.clone()];
+    Entry { name: String::new(), case: second::batch::Case { kind: b'T', strings }, answer: answer(case) }
+}
+
+/// What was met: how many lines there were of which kind.
+#[derive(Debug, Default)]
+pub struct Met {
+    pub kinds: BTreeMap<String, u64>,
+    /// Bad looks behind which a take was ok: the watch went on.
+    pub went_on: u64,
+}
+
+impl Met {
+    /// Counts the lines of an answer.
+    pub fn count(&mut self, answer: &[u8]) {
+        let mut bad_looks = 0;
+        for kind in String::from_utf8_lossy(answer).lines().filter_map(kind) {
+            match kind.as_str() {
+                "look bad" => bad_looks += 1,
+                "take ok" => self.went_on += std::mem::take(&mut bad_looks),
+                _ => (),
+            }
+            *self.kinds.entry(kind).or_insert(0) += 1;
+        }
+    }
+}
+
+/// The call of a line and its answer, without the monitor; or whether the text is accepted.
+fn kind(line: &str) -> Option<String> {
+    let words: Vec<&str> = line.split(' ').collect();
+    match words.as_slice() {
+        ["rows", ..] => Some(String::from("text accepted")),
+        ["refused", ..] => Some(String::from("text refused")),
+        [call @ ("look" | "take"), "refused", number, ..] => Some(format!("{call} refused {number}")),
+        [call @ ("look" | "take"), said, ..] => Some(format!("{call} {said}")),
+        _ => None,
+    }
+}
+
+#[cfg(test)]
+mod tests {
+    use super::*;
+
+    /// A string of a case has room for so many bytes in the Rattle program, and an answer for twice as many.
+    const ROOM: usize = 65_536;
+
+    fn grown(seed: u64) -> Case {
+        case(&mut Random::new(seed))
+    }
+
+    fn met<'a>(answers: impl IntoIterator<Item = &'a [u8]>) -> Met {
+        let mut met = Met::default();
+        answers.into_iter().for_each(|answer| met.count(answer));
+        met
+    }
+
+    #[test]
+    fn lines_are_counted_by_kind() {
+        let met = met([
+            &b"rows 1 letters 1\nlook bad 0\nlook bad 3\ntake ok\nlook bad 1\nlook refused 15\ntake bad 0\ntake refused 16\n"[..],
+            b"rows 1 letters 1\nlook ok\ntake ok\nlook bad 0\n",
+            b"refused 3 0\n",
+            b"refused 12 0 1\n",
+        ]);
+        let kinds: Vec<(&str, u64)> = met.kinds.iter().map(|(kind, &n)| (kind.as_str(), n)).collect();
+        let looks = [("look bad", 4), ("look ok", 1), ("look refused 15", 1)];
+        let takes = [("take bad", 1), ("take ok", 2), ("take refused 16", 1)];
+        assert_eq!(kinds, [&looks[..], &takes, &[("text accepted", 2), ("text refused", 2)]].concat());
+        assert_eq!(met.went_on, 2);
+    }
+
+    /// All answers to looks and takes, but for number 17.
+    #[test]
+    fn every_kind_is_met_often() {
+        let answers: Vec<Vec<u8>> = (0..4000).map(|seed| answer(&grown(seed))).collect();
+        let met = met(answers.iter().map(Vec::as_slice));
+        let answers = ["bad", "ok", "refused 15", "refused 16"];
+        let calls = ["look", "take"].iter().flat_map(|call| answers.map(|answer| format!("{call} {answer}")));
+        let all: Vec<String> = calls.chain(["text accepted", "text refused"].map(String::from)).collect();
+        assert!(met.kinds.keys().eq(&all), "{met:?}");
+        assert!(met.kinds.values().all(|&n| n > 500) && met.went_on > 5000, "{met:?}");
+    }
+
+    /// Of the looks, many are at the word of the next take, many a bit away from it, and many at the word of the take before.
+    #[test]
+    fn looks_are_near_the_takes() {
+        let (mut same, mut near, mut earlier) = (0, 0, 0);
+        for case in (0..1000).map(grown) {
+            let calls: Vec<(u8, u64)> = case.trace.chunks(LENGTH).map(|call| (call[0], u64::from_le_bytes(call[1..].try_into().unwrap()))).collect();
+            for calls in calls.windows(3).filter(|calls| [calls[0].0, calls[1].0, calls[2].0] == [TAKE, LOOK, TAKE]) {
+                let (before, word, next) = (calls[0].1, calls[1].1, calls[2].1);
+                same += usize::from(word == next);
+                near += usize::from((word ^ next).is_power_of_two());
+                earlier += usize::from(word == before && word != next);
+            }
+        }
+        assert!(same > 700 && near > 700 && earlier > 100, "{same} {near} {earlier}");
+    }
+
+    #[test]
+    fn calls_are_whole_and_have_room() {
+        for case in (0..4000).map(grown) {
+            assert!(!case.trace.is_empty() && case.trace.len() % LENGTH == 0);
+            assert!(case.text.len().max(case.trace.len()) <= ROOM && answer(&case).len() <= 2 * ROOM);
+        }
+    }
+
+    #[test]
+    fn the_same_seed_makes_the_same_calls() {
+        for seed in 0..100 {
+            assert_eq!(grown(seed), grown(seed));
+        }
+    }
+
+    #[test]
+    fn words_are_within_the_wires_or_stray() {
+        for (seed, wires) in (0..2000).flat_map(|seed| [0, 1, 7, 63, 64].map(|wires| (seed, wires))) {
+            let mut row = Row { random: &mut Random::new(seed), wires, bytes: Vec::new() };
+            let above = |word: u64| word.checked_shr(wires as u32).unwrap_or(0);
+            let any = row.any();
+            assert_eq!(above(any), 0);
+            assert_eq!(above(row.stray(any)) == 0, wires == 64);
+            assert!((row.changed(any) ^ any).is_power_of_two());
+            assert_eq!(above(row.changed(any)) == 0, wires > 0);
+        }
+    }
+}

@@ -1,0 +1,61 @@
+//! Looks and takes put to a watch in turn, and the lines that answer them.
+//!
+//! A call has nine bytes: `L` for a look or `T` for a take, and its word,
+//! lowest byte first.
+
+use std::fmt;
+
+use crate::lines::lines_of;
+use crate::watch::{Answer, Watch};
+
+/// How many bytes a call has.
+const LENGTH: usize = 9;
+
+enum Call {
+    Look(u64),
+    Take(u64),
+}
+
+/// The lines that answer calls to a freshly opened watch: the refusal of a
+/// text that is refused, or its counts and a line for each call. There is no
+/// answer if the bytes are not a row of whole calls, whatever the text.
+pub fn answer_calls(text: &[u8], calls: &[u8]) -> Option<Vec<u8>> {
+    let calls = read(calls)?;
+    Some(lines_of(text, |program, lines| {
+        let mut watch = Watch::new(program);
+        for call in calls {
+            match call {
+                Call::Look(word) => lines.put(format_args!("look {}", Said(watch.look(word)))),
+                Call::Take(word) => lines.put(format_args!("take {}", Said(watch.take(word)))),
+            }
+        }
+    }))
+}
+
+/// All calls of a row; none if one is cut short or neither look nor take.
+fn read(row: &[u8]) -> Option<Vec<Call>> {
+    row.chunks(LENGTH).map(read_call).collect()
+}
+
+fn read_call(bytes: &[u8]) -> Option<Call> {
+    let (letter, word) = bytes.split_first()?;
+    let word = u64::from_le_bytes(word.try_into().ok()?);
+    match letter {
+        b'L' => Some(Call::Look(word)),
+        b'T' => Some(Call::Take(word)),
+        _ => None,
+    }
+}
+
+/// An answer as it is printed. A refusal has its number alone.
+struct Said(Answer);
+
+impl fmt::Display for Said {
+    fn fmt(&self, f: &mut fmt::Formatter<'_>) -> fmt::Result {
+        match self.0 {
+            Answer::Ok => write!(f, "ok"),
+            Answer::Bad(monitor) => write!(f, "bad {monitor}"),
+            Answer::Refused(refusal) => write!(f, "refused {}", refusal.number()),
+        }
+    }
+}
