@@ -67,8 +67,8 @@ fn write_marked(
 
 // ---- one word
 
-// Every active position goes on, from an empty memory: the first monitor that does not, or how many there are. No more than 32
-// monitors and 256 letters are looked at. This is what a look and a take have in common.
+// Every active position of every monitor, of 32 monitors and 256 letters at most: the first monitor that does not go on, or how
+// many there are. This is what a look and a take have in common.
 fn walk_on(
     monitors: usize,
     letters: usize,

@@ -3,7 +3,7 @@
 // an answer is a string. The first string of a case is not looked at.
 // - S: text and trace, answered with the sheet;
 // - T: text and calls, answered with a line for the text and one for each call (calls.rt).
-// A case that is none of these, is cut short or has a longer string than there is room for ends the program.
+// A case that is none of these, is cut short, or has a longer string or sheet than there is room for ends the program.
 ghost use mathlib.Core.Path.{_≡_};
 ghost use lib.ListN.{length};
 use crate::calls;
@@ -27,7 +27,7 @@ fn string_room() -> [u8; 65536]
     [0; 65536]
 }
 
-// Room for an answer.
+// Room for an answer: a call has 9 bytes, of which a string has no more than 7,281, and its line at most 16.
 fn page_room() -> [u8; 131072]
     ensures { λ r. ⌜ 131072 ≡ length r ⌝ }
 {
@@ -77,10 +77,19 @@ fn write_string(bytes: &[u8]) -> bool {
     io::write_all(STDOUT_FILENO, bytes)
 }
 
+// The sheet on the page: its length, or none where it is too long.
+fn sheet_on(text: &[u8], trace: &[u8], page: &mut [u8]) -> usize {
+    let n = linewatch_sheet(text, trace, page);
+    if n == 0 {
+        return NONE;
+    }
+    n
+}
+
 // The answer to a case, on the page: its length, or none.
 fn answer(kind: usize, text: &[u8], other: &[u8], page: &mut [u8]) -> usize {
     if kind == b'S' as usize {
-        return linewatch_sheet(text, other, page);
+        return sheet_on(text, other, page);
     }
     if kind != b'T' as usize {
         return NONE;
@@ -126,7 +135,7 @@ pub fn run() {
             return;
         }
         if !answer_case(kind) {
-            show::complain(b"vectors: no such case, or a string too long\n");
+            show::complain(b"vectors: no such case, or one too long\n");
             return;
         }
     }
