@@ -268,23 +268,24 @@ module _ {S R : Type 0} (judge : S → ℕ → Verdict) (move : S → ℕ → S)
     left-alike (bad m) p = (a .0, a .1, refl)
     left-alike (refused n q) p = a
 
-    call-alike : (c : Call) → wordOf c ≡ w → Alike Like (afterCall move x c (reply judge′ wires y w)) (afterCall move′ y c (reply judge′ wires y w))
-    call-alike (look u) e = a
-    call-alike (take u) e = subst (λ n. Alike Like (after move x n (reply judge′ wires y w)) (after move′ y n (reply judge′ wires y w))) (sym e) (left-alike (reply judge′ wires y w) refl)
+  call-alike : (x : State S) (y : State R) → Alike Like x y → (c : Call)
+      → Alike Like (afterCall move x c (reply judge′ wires y (wordOf c))) (afterCall move′ y c (reply judge′ wires y (wordOf c)))
+  call-alike x y a (look w) = a
+  call-alike x y a (take w) = left-alike x y a w (reply judge′ wires y w) refl
 
   pub same-replies : (cs : List Call) (x : State S) (y : State R) → Alike Like x y → repliesFrom judge move wires x cs ≡ repliesFrom judge′ move′ wires y cs
   unfolding repliesFrom
   same-replies [] x y a = refl
   same-replies (c ∷ cs) x y a =
       ap (λ k. k ∷ repliesFrom judge move wires (afterCall move x c k) cs) (same-reply x y a (wordOf c))
-      ∙ ap (λ l. reply judge′ wires y (wordOf c) ∷ l) (same-replies cs _ _ (call-alike x y a (wordOf c) c refl))
+      ∙ ap (λ l. reply judge′ wires y (wordOf c) ∷ l) (same-replies cs _ _ (call-alike x y a c))
 
   pub same-states : (cs : List Call) (x : State S) (y : State R) → Alike Like x y → Alike Like (stateFrom judge move wires x cs) (stateFrom judge′ move′ wires y cs)
   unfolding stateFrom
   same-states [] x y a = a
   same-states (c ∷ cs) x y a =
       subst (λ k. Alike Like (stateFrom judge move wires (afterCall move x c k) cs) (stateFrom judge′ move′ wires (afterCall move′ y c (reply judge′ wires y (wordOf c))) cs))
-      (sym (same-reply x y a (wordOf c))) (same-states cs _ _ (call-alike x y a (wordOf c) c refl))
+      (sym (same-reply x y a (wordOf c))) (same-states cs _ _ (call-alike x y a c))
 
 -- The machine over monitors that were not turned away replies to each list of calls as their meaning does, and stands then where that does.
 module _ (ms : List Exp) (read : AllRead ms) (initial : List ℕ) (wires : ℕ) (cs : List Call) where

@@ -70,10 +70,9 @@ opening s = record { inner = s; oks = 0; stopped = false }
 -- S is the history of the words, or the watch of the machine; judge and move are what it makes of a word.
 module _ {S : Type 0} where
   -- The answer to a word, looked at or taken; W10, of a look: "Its answer is the one that a take of its word would get in its
-  -- place". X11: "a call by 16, 17 and then 15". W3: "an earlier take on this watch
-  -- was bad", W4: "none was bad, and 1,000,000 earlier takes were ok", W5: "neither of these, and the word has a bit above the
-  -- wires", W6: "Every other call is judged." The state holds just what this asks of the earlier takes: only ok adds to oks,
-  -- and only bad sets stopped.
+  -- place". X11: "a call by 16, 17 and then 15". W3: "an earlier take on this watch was bad", W4: "none was bad, and 1,000,000
+  -- earlier takes were ok", W5: "neither of these, and the word has a bit above the wires", W6: "Every other call is judged."
+  -- The state holds just what this asks of the earlier takes: only ok adds to oks, and only bad sets stopped.
   unfoldable pub reply : (judge : S → ℕ → Verdict) (wires : ℕ) → State S → ℕ → Reply
   reply judge wires s w =
       cond (s .stopped) (refused number.stopped 0)

@@ -55,7 +55,7 @@ fn marked(starts: u8) -> [u8; 288] {
 }
 
 // A look and a take of a word by 32 monitors, each with row 0 as its own and the last with all 256 letters.
-fn call(table: [u64; 1024], starts: u8) {
+fn call(table: [u64; 1024], starts: u8, ticks: u64, stopped: bool) {
     let places = fourth();
     let marks = marked(starts);
     let watch = Watch {
@@ -76,8 +76,8 @@ fn call(table: [u64; 1024], starts: u8) {
         firsts: [0; 32],
         values: [0; 16],
         marks,
-        ticks: 0,
-        stopped: false,
+        ticks,
+        stopped,
     };
     let looked = monitor::look(watch, 0);
     show::answer(b"look ", looked);
@@ -88,13 +88,17 @@ fn call(table: [u64; 1024], starts: u8) {
 
 fn main() {
     // each operand is the next row, or the row itself, or rows further on: no letter is ever reached
-    call(circle(ALTERNATIVE, 1, 1, 1), 1);
-    call(circle(ALTERNATIVE, 0, 0, 1), 1);
-    call(circle(SEQUENCE, 2, 3, 5), 1);
+    call(circle(ALTERNATIVE, 1, 1, 1), 1, 0, false);
+    call(circle(ALTERNATIVE, 0, 0, 1), 1, 0, false);
+    call(circle(SEQUENCE, 2, 3, 5), 1, 0, false);
     // stars around stars: each can be left, and the one above is asked again
-    call(circle(STAR, 1, 0, 1), 1);
+    call(circle(STAR, 1, 0, 1), 1, 0, false);
     // every letter is left up a long line, which ends
-    call(line(ALTERNATIVE), 0);
+    call(line(ALTERNATIVE), 0, 0, false);
     // and up one that does not
-    call(circle(ALTERNATIVE, 1, 1, 1), 0);
+    call(circle(ALTERNATIVE, 1, 1, 1), 0, 0, false);
+    // the last tick that there is, and one more; a stopped watch is that first
+    call(line(ALTERNATIVE), 0, 999999, false);
+    call(line(ALTERNATIVE), 0, 1000000, false);
+    call(line(ALTERNATIVE), 0, 1000000, true);
 }
