@@ -1,11 +1,13 @@
 //! Looks and takes for a grown case: its words are taken, and among them stand looks, at the word that is then taken, at that word but for a bit, at the word
-//! before, at any word and at a stray one, and stray takes. Behind the last word, bad or not, stand a few calls of any words. Number 17 is not met here: it
-//! takes a million takes, and is left to other tests.
+//! before, at any word and at a stray one, and stray takes. In a text with threads some looks are at words that are bad for a busy thread alone. Behind the
+//! last word, bad or not, stand a few calls of any words. Number 17 is not met here: it takes a million takes, and is left to other tests.
 
 use crate::compare::words;
+use crate::model::{Model, Said};
 use crate::random::Random;
-use crate::{grow, Case};
+use crate::{grow, threads, Case};
 use second::stage::Entry;
+use second::{Answer, Watch};
 use std::collections::BTreeMap;
 
 /// Bytes of a call: `L` for a look or `T` for a take, and its word, lowest byte first.
@@ -13,14 +15,18 @@ pub const LENGTH: usize = 9;
 const LOOK: u8 = b'L';
 const TAKE: u8 = b'T';
 
-/// Calls that are being made.
-struct Row<'r> {
+/// So many words are tried before none is said to be found.
+const TRIES: usize = 6;
+
+/// Calls that are being made, and a model that has taken the words so far, if the text has threads.
+struct Row<'r, 'o> {
     random: &'r mut Random,
     wires: usize,
     bytes: Vec<u8>,
+    model: Option<Model<'o>>,
 }
 
-impl Row<'_> {
+impl Row<'_, '_> {
     fn put(&mut self, letter: u8, word: u64) {
         self.bytes.push(letter);
         self.bytes.extend(word.to_le_bytes());
@@ -55,17 +61,43 @@ impl Row<'_> {
         }
     }
 
+    /// A look at a word a bit or two away, such that a busy thread alone makes it bad, if one is found quickly.
+    fn put_busy_look(&mut self, word: u64, model: &Model) {
+        for _ in 0..TRIES {
+            let mut near = self.changed(word);
+            if self.random.once_in(2) {
+                near = self.changed(near);
+            }
+            if matches!(model.look(near), Said::Busy(_)) {
+                return self.put(LOOK, near);
+            }
+        }
+    }
+
+    /// Has the model take a word that is not stray.
+    fn move_model(&mut self, word: u64) {
+        let above = word.checked_shr(self.wires as u32).unwrap_or(0);
+        if let Some(model) = self.model.as_mut().filter(|_| above == 0) {
+            model.take(word);
+        }
+    }
+
     /// Some looks, for some words a stray take, and the take.
     fn put_tick(&mut self, word: u64, before: u64) {
         for _ in 0..*self.random.pick(&[0, 0, 1, 1, 2, 4]) {
             let looked_at = self.looked_at(word, before);
             self.put(LOOK, looked_at);
         }
+        if let Some(model) = self.model.take() {
+            self.put_busy_look(word, &model);
+            self.model = Some(model);
+        }
         if self.random.once_in(8) {
             let stray = self.stray(word);
             self.put(TAKE, stray);
         }
         self.put(TAKE, word);
+        self.move_model(word);
     }
 
     /// Looks and takes of any words, some of them stray.
@@ -82,15 +114,18 @@ impl Row<'_> {
 /// A grown case with calls in the place of its trace.
 pub fn case(random: &mut Random) -> Case {
     let Case { text, trace } = grow::case(random);
-    let wires = second::open(&text).map_or(64, |program| program.wires() as usize);
-    let mut row = Row { random, wires, bytes: Vec::new() };
+    let program = second::open(&text);
+    let wires = program.as_ref().map_or(64, |program| program.wires() as usize);
+    let opened = program.ok().and_then(|_| threads::opened(&text));
+    let mut row = Row { random, wires, bytes: Vec::new(), model: opened.as_ref().map(Model::new) };
     let mut before = 0;
     for word in words(&trace) {
         row.put_tick(word, before);
         before = word;
     }
     row.put_more();
-    Case { text, trace: row.bytes }
+    let calls = row.bytes;
+    Case { text, trace: calls }
 }
 
 /// What `second` prints for a case with calls.
@@ -102,6 +137,50 @@ pub fn answer(case: &Case) -> Vec<u8> {
 pub fn entry(case: &Case) -> Entry {
     let strings = vec![Vec::new(), case.text.clone(), case.trace.clone()];
     Entry { name: String::new(), case: second::batch::Case { kind: b'T', strings }, answer: answer(case) }
+}
+
+/// How many looks and takes are bad for a busy thread alone.
+#[derive(Clone, Copy, Debug, Default, PartialEq, Eq)]
+pub struct Busy {
+    pub looks: u64,
+    /// Of the looks, those behind which a take was ok.
+    pub went_on: u64,
+    pub takes: u64,
+}
+
+impl Busy {
+    /// Counts those of a case.
+    pub fn count(&mut self, case: &Case) {
+        let Ok(program) = second::open(&case.text) else {
+            return;
+        };
+        if let Some(opened) = threads::opened(&case.text) {
+            self.count_calls(&case.trace, Watch::new(&program), Model::new(&opened));
+        }
+    }
+
+    fn count_calls(&mut self, calls: &[u8], mut watch: Watch, mut model: Model) {
+        let mut looks = 0;
+        for (letter, word) in calls_of(calls) {
+            let answer = if letter == TAKE { watch.take(word) } else { watch.look(word) };
+            let is_busy = matches!(answer, Answer::Bad(_)) && matches!(model.look(word), Said::Busy(_));
+            if letter == LOOK {
+                looks += u64::from(is_busy);
+                self.looks += u64::from(is_busy);
+            } else if answer == Answer::Ok {
+                model.take(word);
+                self.went_on += std::mem::take(&mut looks);
+            } else {
+                self.takes += u64::from(is_busy);
+            }
+        }
+    }
+}
+
+/// The calls that some bytes are: the letter and the word of each.
+fn calls_of(bytes: &[u8]) -> impl Iterator<Item = (u8, u64)> + '_ {
+    let word = |bytes: &[u8]| u64::from_le_bytes(bytes.try_into().expect("a word has 8 bytes"));
+    bytes.chunks(LENGTH).map(move |call| (call[0], word(&call[1..])))
 }
 
 /// What was met: how many lines there were of which kind.
@@ -188,7 +267,7 @@ mod tests {
     fn looks_are_near_the_takes() {
         let (mut same, mut near, mut earlier) = (0, 0, 0);
         for case in (0..1000).map(grown) {
-            let calls: Vec<(u8, u64)> = case.trace.chunks(LENGTH).map(|call| (call[0], u64::from_le_bytes(call[1..].try_into().unwrap()))).collect();
+            let calls: Vec<(u8, u64)> = calls_of(&case.trace).collect();
             for calls in calls.windows(3).filter(|calls| [calls[0].0, calls[1].0, calls[2].0] == [TAKE, LOOK, TAKE]) {
                 let (before, word, next) = (calls[0].1, calls[1].1, calls[2].1);
                 same += usize::from(word == next);
@@ -197,6 +276,31 @@ mod tests {
             }
         }
         assert!(same > 700 && near > 700 && earlier > 100, "{same} {near} {earlier}");
+    }
+
+    fn busy(body: &str, calls: &[(u8, u64)]) -> (u64, u64, u64) {
+        let text = format!("input a; input b; input c; p -> {body}; monitor p;").into_bytes();
+        let trace = calls.iter().flat_map(|(letter, word)| [&[*letter][..], &word.to_le_bytes()].concat()).collect();
+        let mut busy = Busy::default();
+        busy.count(&Case { text, trace });
+        (busy.looks, busy.went_on, busy.takes)
+    }
+
+    #[test]
+    fn calls_at_a_busy_thread_are_counted() {
+        let stray = (TAKE, 8);
+        let looks = [(TAKE, 1), (TAKE, 4), (TAKE, 5), (LOOK, 4), (LOOK, 0), stray, (LOOK, 4), (TAKE, 6), (TAKE, 0), (LOOK, 0)];
+        assert_eq!(busy("(a, b*) @ (c, c, c), !b", &looks), (2, 2, 0));
+        assert_eq!(busy("a @ (b, c)", &[(TAKE, 1), (LOOK, 3), (TAKE, 3), (LOOK, 3), (LOOK, 7), (TAKE, 7), (TAKE, 7), (LOOK, 7)]), (1, 0, 1));
+        assert_eq!(busy("a @ (b, c)", &[(TAKE, 1), (TAKE, 3), (TAKE, 0)]), (0, 0, 0));
+        assert_eq!(busy("a @ (b, c*)", &[(TAKE, 1), (TAKE, 3), (TAKE, 7)]), (0, 0, 0));
+    }
+
+    #[test]
+    fn threads_are_often_busy() {
+        let mut busy = Busy::default();
+        (0..10_000).map(grown).for_each(|case| busy.count(&case));
+        assert!(busy.looks > 1000 && busy.went_on > 300 && busy.takes > 400, "{busy:?}");
     }
 
     #[test]
@@ -217,7 +321,7 @@ mod tests {
     #[test]
     fn words_are_within_the_wires_or_stray() {
         for (seed, wires) in (0..2000).flat_map(|seed| [0, 1, 7, 63, 64].map(|wires| (seed, wires))) {
-            let mut row = Row { random: &mut Random::new(seed), wires, bytes: Vec::new() };
+            let mut row = Row { random: &mut Random::new(seed), wires, bytes: Vec::new(), model: None };
             let above = |word: u64| word.checked_shr(wires as u32).unwrap_or(0);
             let any = row.any();
             assert_eq!(above(any), 0);

@@ -1,14 +1,10 @@
 //! Cases grown from the grammar: declarations, productions and monitors at random, most of them such that the shape rules are kept, half of them with
-//! `past`; or a text around a limit or around `past`; then, for some, a token put in another's place or bytes damaged; and a trace that follows the rules
-//! for a while and then leaves them, or whose last record is torn, has an idle byte or a bit above the wires. Where a text has `past`, many words are the
-//! one before on the fields that it holds, and many are that but for a bit.
+//! `past`; or a text around a limit, around `past` or around threads; then, for some, a token put in another's place or bytes damaged; and a trace of words
+//! that follow the rules for a while and then leave them (follow.rs), or whose last record is torn, has an idle byte or a bit above the wires.
 
 use crate::compare::record;
-use crate::limits;
-use crate::past;
 use crate::random::Random;
-use crate::Case;
-use second::{Answer, Watch};
+use crate::{follow, limits, past, threads, Case};
 
 struct Input {
     name: String,
@@ -265,81 +261,6 @@ fn damaged(random: &mut Random, mut bytes: Vec<u8>) -> Vec<u8> {
     bytes
 }
 
-/// One of the bits of a word that is not 0.
-fn bit_of(random: &mut Random, word: u64) -> u64 {
-    let bits: Vec<u64> = (0..64).map(|i| 1 << i).filter(|bit| word & bit != 0).collect();
-    *random.pick(&bits)
-}
-
-/// A word to try behind another. `fields` are those that `past` holds in the text; where there are some, they are mostly as before, or but for one bit.
-fn next_word(random: &mut Random, mask: u64, fields: &[u64], before: u64) -> u64 {
-    let any = random.word() & mask & if random.once_in(3) { random.word() } else { u64::MAX };
-    if fields.is_empty() {
-        return any;
-    }
-    match random.below(8) {
-        0 => before,
-        1 => before ^ bit_of(random, mask),
-        2 => before ^ bit_of(random, fields.iter().fold(0, |all, field| all | field)),
-        3..=6 => {
-            let still = fields.iter().filter(|_| !random.once_in(5)).fold(0, |all, field| all | field);
-            before & still | any & !still
-        }
-        _ => any,
-    }
-}
-
-/// A bad word that is a bit of a held field away from one that is ok, if there is one and it is found quickly.
-fn moving_word(random: &mut Random, watch: &Watch, mask: u64, fields: &[u64], before: u64) -> Option<u64> {
-    for _ in 0..40 {
-        let word = next_word(random, mask, fields, before);
-        let field = *random.pick(fields);
-        let moved = word ^ bit_of(random, field);
-        let answers = (watch.look(word), watch.look(moved));
-        if matches!(answers, (Answer::Ok, Answer::Bad(_))) {
-            return Some(moved);
-        }
-    }
-    None
-}
-
-/// Words that keep the rules as long as one is found quickly, and a few more that need not.
-fn words(random: &mut Random, text: &[u8]) -> Vec<u64> {
-    let mut words = Vec::new();
-    let Ok(program) = second::open(text) else {
-        return vec![random.word(); random.below(3)];
-    };
-    let mask = if program.wires() == 64 { u64::MAX } else { (1 << program.wires()) - 1 };
-    let fields = past::fields(text);
-    let mut watch = Watch::new(&program);
-    let mut before = 0;
-    let long = random.below(60);
-    'ticks: while words.len() < long {
-        for _ in 0..40 {
-            let word = next_word(random, mask, &fields, before);
-            if watch.look(word) == Answer::Ok {
-                watch.take(word);
-                before = word;
-                words.push(word);
-                continue 'ticks;
-            }
-        }
-        break;
-    }
-    if !fields.is_empty() && random.once_in(2) {
-        words.extend(moving_word(random, &watch, mask, &fields, before));
-    } else if random.once_in(2) {
-        for _ in 0..random.below(4) {
-            before = if random.once_in(6) { random.word() } else { next_word(random, mask, &fields, before) };
-            words.push(before);
-        }
-    }
-    if program.wires() < 64 && random.once_in(8) {
-        words.push(words.last().unwrap_or(&0) | 1 << program.wires());
-    }
-    words
-}
-
 /// A map with too few bytes behind it.
 fn torn(random: &mut Random, before: u64) -> Vec<u8> {
     let mut record = record(before, before ^ (random.word() | 1));
@@ -380,6 +301,7 @@ pub fn case(random: &mut Random) -> Case {
     let mut text = match random.below(20) {
         0 | 1 => limits::text(random),
         2 | 3 => past::formed(random).text,
+        4..=7 => threads::text(random),
         _ => text(random),
     }
     .into_bytes();
@@ -393,7 +315,7 @@ pub fn case(random: &mut Random) -> Case {
         let length = 16_380 + random.below(8);
         text.resize(length.max(text.len()), b' ');
     }
-    let words = words(random, &text);
+    let words = follow::words(random, &text);
     let trace = trace(random, &words);
     Case { text, trace }
 }

@@ -1,14 +1,19 @@
 //! Random cases for the line watch, what they must show, and how a case that fails is made small and saved. The program beside it (`main.rs`) has the C
 //! entries; here they are parameters, so that the tests can put wrong ones in their place. Another (`bin/calls.rs`) puts looks and takes to a program.
+//! A model (`model.rs`) tells where a bad word is bad for a thread that is started while it runs, and for nothing else.
 
 pub mod calls;
 pub mod compare;
+pub mod follow;
 pub mod grow;
 pub mod limits;
+pub mod model;
+pub mod opened;
 pub mod past;
 pub mod random;
 pub mod save;
 pub mod shrink;
+pub mod threads;
 
 /// A rule text and a trace. For looks and takes (calls.rs), the bytes of the calls stand in the place of the trace.
 #[derive(Clone, Debug, PartialEq, Eq)]

@@ -3,7 +3,7 @@
 
 use fuzz::compare::{differs, records_differ};
 use fuzz::random::Random;
-use fuzz::{grow, past, save, shrink, Case};
+use fuzz::{grow, past, save, shrink, threads, Case};
 use std::collections::BTreeMap;
 use std::path::Path;
 
@@ -51,12 +51,14 @@ fn main() {
     println!("{count} cases from seed {first}");
     let mut kinds = BTreeMap::new();
     let mut held = Held::default();
+    let mut threads = threads::Tally::default();
     let mut found = 0;
     for i in 0..count {
         let seed = first.wrapping_add(i);
         let case = grow::case(&mut Random::new(seed));
         let kind = grow::kind(&case);
         held.count(&case, &kind);
+        threads.count(&case, &kind);
         *kinds.entry(kind).or_insert(0u64) += 1;
         if fails(&case) {
             found += 1;
@@ -68,6 +70,7 @@ fn main() {
     }
     let Held { texts, clean, bad, moved } = held;
     println!("{texts:8} accepted with past: {clean} clean, {bad} bad, {moved} of these for a field that moved");
+    println!("{threads}");
     println!("{count} cases, {found} differences");
     if found > 0 {
         std::process::exit(1);

@@ -7,6 +7,22 @@
 //! over a word by choosing a way on for each of its obligations and for each
 //! thread started by that; if one of them has no way, the branch does not fit.
 //!
+//! Nor does it fit if two starts of one thread both require a letter at this
+//! tick. So the letters of a branch that fits belong to different runs, and
+//! the set of them says all there is to know: no two starts are in the same
+//! place, and a start is known by the thread of its letter. What can clash at
+//! the next tick follows from this.
+//!
+//! - Not two starts that go on: they are of different threads, and nothing
+//!   leads out of a thread.
+//! - Not two that begin: the left operand of an `@` belongs to one run, and so
+//!   it is left from one letter at most, and once, as it is not hollow (rule
+//!   10). A star left in two ways is two branches, but these do not differ in
+//!   letters and starts, and the graph has one way for both.
+//! - So only one that begins and one that goes on. The older one goes on if
+//!   and only if its letter of the tick before was not a last one of the
+//!   thread (rule 11).
+//!
 //! In a text without forks no branch can choose between two letters on one
 //! word, so one branch stays one branch. The answers do not rely on this, only
 //! the speed does.
@@ -15,10 +31,10 @@ use crate::graph::{Graph, LetterNo, Next, WHOLE};
 use crate::letter::{Letter, Moment};
 use crate::set::Set;
 
-/// A branch between two ticks. Two obligations in the same place count as one.
+/// A branch between two ticks.
 #[derive(Clone, Copy, Debug, PartialEq, Eq)]
 pub struct Branch {
-    /// The letters whose tick was the last one.
+    /// The letters whose tick was the last one, no two of the same run.
     letters: Set,
     /// The runs that start with the next tick.
     starts: Set,
@@ -58,6 +74,9 @@ pub struct Crossing {
 /// no list means that anything may come.
 struct Way {
     starts: Set,
+    /// The letters of the threads it starts after which an older start of
+    /// them goes on.
+    midway: Set,
     next: Option<Vec<LetterNo>>,
 }
 
@@ -70,6 +89,7 @@ pub struct Monitor {
 
 impl Monitor {
     pub fn new(graph: Graph) -> Self {
+        let listed = |way| listed(way, &graph.midway);
         Monitor {
             letters: graph.letters,
             ways: graph
@@ -106,7 +126,7 @@ impl Monitor {
         while let Some(mut crossing) = crossings.pop() {
             // Letters go before starts, since they can add starts.
             if let Some(letter) = crossing.todo.letters.pop() {
-                self.move_on(letter, crossing, moment, crossings);
+                self.move_on(letter, &from, crossing, moment, crossings);
             } else if let Some(run) = crossing.todo.starts.pop() {
                 self.go_over(&self.first[usize::from(run)], crossing, moment, crossings);
             } else {
@@ -118,16 +138,22 @@ impl Monitor {
         }
     }
 
-    /// Takes each way on from a letter of the tick before.
+    /// Takes each way on from a letter of the tick before, but none that starts
+    /// a thread of which an older start goes on.
     fn move_on(
         &self,
         letter: LetterNo,
+        from: &Branch,
         crossing: Crossing,
         moment: Moment<'_>,
         crossings: &mut Vec<Crossing>,
     ) {
         for way in &self.ways[usize::from(letter)] {
+            if from.letters.meets(&way.midway) {
+                continue;
+            }
             let mut crossing = crossing;
+            debug_assert!(!crossing.todo.starts.meets(&way.starts));
             crossing.todo.starts.insert_all(&way.starts);
             match &way.next {
                 None => crossings.push(crossing),
@@ -154,13 +180,19 @@ impl Monitor {
     }
 }
 
-fn listed(way: &crate::graph::Way) -> Way {
+/// Lists a way; `midway` is that of the graph.
+fn listed(way: &crate::graph::Way, midway: &[Set]) -> Way {
     let next = match way.next {
         Next::Anything => None,
         Next::OneOf(letters) => Some(letters.iter().collect()),
     };
+    let mut of_starts = Set::EMPTY;
+    for thread in way.starts.iter() {
+        of_starts.insert_all(&midway[usize::from(thread)]);
+    }
     Way {
         starts: way.starts,
+        midway: of_starts,
         next,
     }
 }

@@ -3,7 +3,8 @@
 //! These are the position automaton's relations (Glushkov's construction),
 //! worked out from the leaves up, with one addition: whoever moves on from a
 //! letter may leave left operands of `@` on the way, and so each step to a
-//! next letter carries the set of threads it starts.
+//! next letter carries the set of threads it starts. For each thread the
+//! letters are kept after which it goes on.
 
 use crate::expr::{Expr, ExprId, Exprs};
 use crate::letter::Letter;
@@ -43,6 +44,9 @@ pub struct Graph {
     pub ways: Vec<Vec<Way>>,
     /// For each run, the letters that can come first.
     pub first: Vec<Set>,
+    /// For each run, the letters after which it goes on: all of its own but
+    /// its last ones, after which nothing of it comes (rule 11).
+    pub midway: Vec<Set>,
 }
 
 /// A last letter of a part, and the threads that start when the part is left
@@ -57,6 +61,8 @@ struct Part {
     nullable: bool,
     first: Set,
     last: Vec<Exit>,
+    /// Its letters without those of threads inside it, which are theirs alone.
+    own: Set,
 }
 
 impl Graph {
@@ -68,10 +74,12 @@ impl Graph {
             letters: Vec::new(),
             ways: Vec::new(),
             first: vec![Set::EMPTY],
+            midway: vec![Set::EMPTY],
         };
         let whole = graph.part(exprs, monitor);
         graph.first[usize::from(WHOLE)] = whole.first;
-        // The monitor is followed by itself for ever.
+        // The monitor is followed by itself for ever, so no letter is its last.
+        graph.midway[usize::from(WHOLE)] = whole.own;
         graph.connect(&whole.last, whole.first);
         graph
     }
@@ -110,6 +118,7 @@ impl Graph {
             nullable: false,
             first: Set::of(number),
             last: vec![exit],
+            own: Set::of(number),
         }
     }
 
@@ -132,10 +141,12 @@ impl Graph {
         if right.nullable {
             last.append(&mut left.last);
         }
+        left.own.insert_all(&right.own);
         Part {
             nullable: left.nullable && right.nullable,
             first: left.first,
             last,
+            own: left.own,
         }
     }
 
@@ -144,13 +155,16 @@ impl Graph {
     fn pipeline(&mut self, mut left: Part, right: Part) -> Part {
         let thread = self.first.len() as RunNo;
         self.first.push(right.first);
+        let mut midway = right.own;
         for exit in right.last {
+            midway.remove(exit.letter);
             let way = Way {
                 starts: exit.starts,
                 next: Next::Anything,
             };
             self.ways[usize::from(exit.letter)].push(way);
         }
+        self.midway.push(midway);
         for exit in &mut left.last {
             exit.starts.insert(thread);
         }
@@ -173,6 +187,7 @@ impl Graph {
 fn choice(mut left: Part, mut right: Part) -> Part {
     left.first.insert_all(&right.first);
     left.last.append(&mut right.last);
+    left.own.insert_all(&right.own);
     Part {
         nullable: left.nullable || right.nullable,
         ..left
@@ -238,6 +253,22 @@ mod tests {
         assert_eq!(graph.ways[0], [one_of(&[2], &[0])]);
         assert_eq!(graph.ways[1], [anything(&[1])]);
         assert_eq!(graph.ways[2], [anything(&[])]);
+    }
+
+    #[test]
+    fn a_run_goes_on_after_all_but_its_last_letters() {
+        let starred = graph("(a, (b @ (c, a*, b) || c)*, a) @ (a, b)");
+        let midway = [set(&[0, 1, 5, 6]), set(&[2, 3]), set(&[7])];
+        assert_eq!(starred.midway, midway);
+        let either = graph("a @ (b || !b, c, (a || !a, b)) || !a");
+        assert_eq!(either.midway, [set(&[0, 7]), set(&[2, 3, 5])]);
+    }
+
+    #[test]
+    fn letters_of_an_inner_thread_are_its_own() {
+        let nested = graph("a @ (b @ (c, b), a) || (b @ (a, b)) @ c");
+        let midway = [set(&[0, 5]), set(&[2]), set(&[1]), set(&[6]), set(&[])];
+        assert_eq!(nested.midway, midway);
     }
 
     #[test]

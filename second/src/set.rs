@@ -17,6 +17,10 @@ impl Set {
         self.0[usize::from(number / 64)] |= 1 << (number % 64);
     }
 
+    pub fn remove(&mut self, number: u8) {
+        self.0[usize::from(number / 64)] &= !(1 << (number % 64));
+    }
+
     pub fn insert_all(&mut self, other: &Set) {
         for (mine, theirs) in self.0.iter_mut().zip(other.0) {
             *mine |= theirs;
@@ -29,10 +33,11 @@ impl Set {
 
     /// Whether the two sets share a number.
     pub fn meets(&self, other: &Set) -> bool {
-        self.0
-            .iter()
-            .zip(other.0)
-            .any(|(mine, theirs)| mine & theirs != 0)
+        let mut shared = 0;
+        for (mine, theirs) in self.0.iter().zip(other.0) {
+            shared |= mine & theirs;
+        }
+        shared != 0
     }
 
     /// Takes the lowest number out.
@@ -67,6 +72,16 @@ mod tests {
         assert_eq!(set.iter().collect::<Vec<_>>(), [0, 63, 64, 128, 255]);
         assert!(set.meets(&Set::of(128)));
         assert!(!set.meets(&Set::of(129)));
+    }
+
+    #[test]
+    fn a_number_is_removed_alone() {
+        let mut set = Set::of(64);
+        set.insert(65);
+        set.insert(1);
+        set.remove(65);
+        set.remove(66);
+        assert_eq!(set.iter().collect::<Vec<_>>(), [1, 64]);
     }
 
     #[test]

@@ -2,12 +2,16 @@
 //!
 //! What can come first, last and next is found by listing all runs of letters
 //! an expression allows (each star up to two rounds); whether words fit, by
-//! following every branch with what it still has to do. Both take far too long
-//! for large texts and share nothing with the library.
+//! following every branch with what each of its starts still has to do. Both
+//! take far too long for large texts and share nothing with the library.
+//!
+//! One test draws any texts, another one texts and words with which starts of
+//! a thread often overlap.
 
 mod common;
 
 use std::collections::BTreeSet;
+use std::ptr;
 use std::rc::Rc;
 
 use common::Numbers;
@@ -107,6 +111,7 @@ static WRITES: [Write; 4] = [
     },
 ];
 
+#[derive(Clone)]
 struct Letter {
     literals: Vec<&'static Literal>,
     writes: Vec<&'static Write>,
@@ -137,6 +142,17 @@ impl Letter {
             literals,
             writes: Vec::new(),
         }
+    }
+
+    /// A random letter that many words meet.
+    fn easy(numbers: &mut Numbers) -> Letter {
+        let mut literals = vec![&WIRE_LITERALS[numbers.below(6)]];
+        if numbers.below(4) == 0 {
+            literals.push(&OTHER_LITERALS[numbers.below(8)]);
+        }
+        let count = numbers.below(4).saturating_sub(2);
+        let writes = (0..count).map(|_| &WRITES[numbers.below(4)]).collect();
+        Letter { literals, writes }
     }
 
     fn text(&self) -> String {
@@ -177,26 +193,87 @@ enum Expr {
 
 use Expr::{Choice, Pipeline, Sequence, Star};
 
+/// What random expressions are like.
+struct Odds {
+    /// One part in so many is starred.
+    stars: usize,
+    /// How often the other operators come up, beside each other.
+    sequences: usize,
+    choices: usize,
+    pipelines: usize,
+    /// So many numbers of letters are drawn for a left operand, which has the
+    /// least of them.
+    lefts: usize,
+}
+
+const ANY: Odds = Odds {
+    stars: 5,
+    sequences: 2,
+    choices: 1,
+    pipelines: 2,
+    lefts: 1,
+};
+
+const MANY_THREADS: Odds = Odds {
+    stars: 4,
+    sequences: 2,
+    choices: 3,
+    pipelines: 4,
+    lefts: 2,
+};
+
+impl Odds {
+    fn operator(&self, numbers: &mut Numbers) -> fn(Box<Expr>, Box<Expr>) -> Expr {
+        let first_pipeline = self.sequences + self.choices;
+        match numbers.below(first_pipeline + self.pipelines) {
+            number if number < self.sequences => Sequence,
+            number if number < first_pipeline => Choice,
+            _ => Pipeline,
+        }
+    }
+}
+
 impl Expr {
     /// A random expression of so many letters, numbered on from `begin`.
-    fn random(numbers: &mut Numbers, begin: usize, letters: usize) -> Expr {
-        if numbers.below(5) == 0 {
-            return Star(Box::new(Expr::random_unstarred(numbers, begin, letters)));
+    fn random(numbers: &mut Numbers, odds: &Odds, begin: usize, letters: usize) -> Expr {
+        if numbers.below(odds.stars) == 0 {
+            return Star(Box::new(Expr::random_unstarred(
+                numbers, odds, begin, letters,
+            )));
         }
-        Expr::random_unstarred(numbers, begin, letters)
+        Expr::random_unstarred(numbers, odds, begin, letters)
     }
 
-    fn random_unstarred(numbers: &mut Numbers, begin: usize, letters: usize) -> Expr {
+    fn random_unstarred(numbers: &mut Numbers, odds: &Odds, begin: usize, letters: usize) -> Expr {
         if letters == 1 {
             return Expr::Letter(begin);
         }
-        let cut = 1 + numbers.below(letters - 1);
-        let left = Box::new(Expr::random(numbers, begin, cut));
-        let right = Box::new(Expr::random(numbers, begin + cut, letters - cut));
-        match numbers.below(5) {
-            0 | 1 => Sequence(left, right),
-            2 => Choice(left, right),
-            _ => Pipeline(left, right),
+        let lefts = (0..odds.lefts).map(|_| 1 + numbers.below(letters - 1));
+        let cut = lefts.min().expect("there is at least one");
+        let left = Box::new(Expr::random(numbers, odds, begin, cut));
+        let right = Box::new(Expr::random(numbers, odds, begin + cut, letters - cut));
+        odds.operator(numbers)(left, right)
+    }
+
+    /// A copy with so much higher letter numbers.
+    fn copy(&self, higher: usize) -> Expr {
+        let copy = |part: &Expr| Box::new(part.copy(higher));
+        match self {
+            Expr::Letter(number) => Expr::Letter(number + higher),
+            Star(body) => Star(copy(body)),
+            Sequence(e, f) => Sequence(copy(e), copy(f)),
+            Choice(e, f) => Choice(copy(e), copy(f)),
+            Pipeline(e, f) => Pipeline(copy(e), copy(f)),
+        }
+    }
+
+    /// The sign between its operands, if it has two.
+    fn sign(&self) -> &'static str {
+        match self {
+            Expr::Letter(_) | Star(_) => "",
+            Sequence(..) => ",",
+            Choice(..) => "||",
+            Pipeline(..) => "@",
         }
     }
 
@@ -205,9 +282,9 @@ impl Expr {
         match self {
             Expr::Letter(number) => letters[*number].text(),
             Star(body) => format!("({})*", inner(body)),
-            Sequence(e, f) => format!("({}), ({})", inner(e), inner(f)),
-            Choice(e, f) => format!("({}) || ({})", inner(e), inner(f)),
-            Pipeline(e, f) => format!("({}) @ ({})", inner(e), inner(f)),
+            Sequence(e, f) | Choice(e, f) | Pipeline(e, f) => {
+                format!("({}) {} ({})", inner(e), self.sign(), inner(f))
+            }
         }
     }
 
@@ -226,6 +303,22 @@ impl Expr {
             parts.extend(operand.parts());
         }
         parts
+    }
+
+    /// All threads within this part.
+    fn threads(&self) -> Vec<&Expr> {
+        let parts = self.parts().into_iter();
+        let threads = parts.filter_map(|part| match part {
+            Pipeline(_, f) => Some(&**f),
+            _ => None,
+        });
+        threads.collect()
+    }
+
+    /// Whether it has a thread that can require letters at two ticks.
+    fn has_long_thread(&self) -> bool {
+        let is_long = |thread: &&Expr| thread.runs().iter().any(|run| run.len() > 1);
+        self.threads().iter().any(is_long)
     }
 
     fn first_letter(&self) -> usize {
@@ -364,16 +457,46 @@ fn pairs(letters: impl Iterator<Item = usize>) -> BTreeSet<(usize, usize)> {
 
 // Fit, branch by branch.
 
-/// What has to fit from some tick on.
+/// What has to fit from some tick on, for the monitor itself or for one start
+/// of a thread.
 #[derive(PartialEq)]
 enum Ahead<'e> {
-    Anything,
+    /// A start of this thread is over: anything may come.
+    EndOf(&'e Expr),
     TheMonitorAgain,
     Part(&'e Expr, Rc<Ahead<'e>>),
     ThreadBeside(&'e Expr, Rc<Ahead<'e>>),
 }
 
-/// What a branch does at one tick: letters, each with what is ahead of it.
+impl<'e> Ahead<'e> {
+    /// The thread of which this is the rest of a start; none for the monitor
+    /// itself.
+    fn thread(&self) -> Option<&'e Expr> {
+        match self {
+            Ahead::EndOf(thread) => Some(thread),
+            Ahead::TheMonitorAgain => None,
+            Ahead::Part(_, then) | Ahead::ThreadBeside(_, then) => then.thread(),
+        }
+    }
+
+    /// Whether this is the rest of a start of this very thread.
+    fn is_of(&self, thread: &Expr) -> bool {
+        self.thread().is_some_and(|own| ptr::eq(own, thread))
+    }
+
+    /// Whether this requires no more letters of its own.
+    fn is_over(&self) -> bool {
+        match self {
+            Ahead::EndOf(_) => true,
+            Ahead::TheMonitorAgain | Ahead::Part(..) => false,
+            Ahead::ThreadBeside(_, then) => then.is_over(),
+        }
+    }
+}
+
+/// What a branch does at one tick: the letter of the monitor itself and that
+/// of each start that requires one, each with what is ahead of it. Two starts
+/// in the same place have two letters here.
 type Doing<'e> = Vec<(usize, Rc<Ahead<'e>>)>;
 
 /// All ways to fit what is ahead with the letters met at this tick.
@@ -381,10 +504,10 @@ fn ways<'e>(ahead: &Ahead<'e>, whole: &'e Expr, met: &dyn Fn(usize) -> bool) -> 
     let part =
         |part: &'e Expr, ahead: Ahead<'e>| ways(&Ahead::Part(part, Rc::new(ahead)), whole, met);
     match ahead {
-        Ahead::Anything => vec![vec![]],
+        Ahead::EndOf(_) => vec![vec![]],
         Ahead::TheMonitorAgain => part(whole, Ahead::TheMonitorAgain),
         Ahead::ThreadBeside(thread, then) => {
-            crossed(&part(thread, Ahead::Anything), &ways(then, whole, met))
+            crossed(&part(thread, Ahead::EndOf(thread)), &ways(then, whole, met))
         }
         Ahead::Part(expr, then) => match expr {
             Expr::Letter(number) if met(*number) => vec![vec![(*number, then.clone())]],
@@ -410,8 +533,7 @@ fn crossed<'e>(these: &[Doing<'e>], those: &[Doing<'e>]) -> Vec<Doing<'e>> {
     let mut both: Vec<Doing<'e>> = Vec::new();
     for this in these {
         for that in those {
-            let mut doing = this.clone();
-            doing.extend(that.iter().filter(|one| !this.contains(one)).cloned());
+            let doing = [&this[..], &that[..]].concat();
             if !both.contains(&doing) {
                 both.push(doing);
             }
@@ -420,42 +542,138 @@ fn crossed<'e>(these: &[Doing<'e>], those: &[Doing<'e>]) -> Vec<Doing<'e>> {
     both
 }
 
-/// The branches of a monitor after one more tick.
-fn next_branches<'e>(
-    branches: &[Doing<'e>],
-    whole: &'e Expr,
-    met: &dyn Fn(usize) -> bool,
-) -> Vec<Doing<'e>> {
-    let mut next: Vec<Doing<'e>> = Vec::new();
+/// Two starts of one thread that both require a letter at the same tick.
+struct Clash<'e> {
+    thread: &'e Expr,
+    letters: [usize; 2],
+}
+
+/// The clash for which a branch does not fit a tick, if there is one. If a
+/// start did not have the letter it requires, the branch would not be here.
+fn clash<'e>(doing: &Doing<'e>) -> Option<Clash<'e>> {
+    doing
+        .iter()
+        .enumerate()
+        .find_map(|(count, (letter, ahead))| {
+            let thread = ahead.thread()?;
+            let mut others = doing[..count].iter();
+            let (other, _) = others.find(|(_, ahead)| ahead.is_of(thread))?;
+            Some(Clash {
+                thread,
+                letters: [*other, *letter],
+            })
+        })
+}
+
+/// What becomes of the branches of a monitor at one tick.
+#[derive(Default)]
+struct Moved<'e> {
+    fitting: Vec<Doing<'e>>,
+    /// Of each branch that has all its letters met and yet does not fit.
+    clashes: Vec<Clash<'e>>,
+}
+
+/// Moves the branches of a monitor over one more tick.
+fn moved<'e>(branches: &[Doing<'e>], whole: &'e Expr, met: &dyn Fn(usize) -> bool) -> Moved<'e> {
+    let mut moved = Moved::default();
     for branch in branches {
         let mut found = vec![vec![]];
         for (_, ahead) in branch {
             found = crossed(&found, &ways(ahead, whole, met));
         }
         for doing in found {
-            if !next.contains(&doing) {
-                next.push(doing);
+            match clash(&doing) {
+                Some(clash) => moved.clashes.push(clash),
+                None if moved.fitting.contains(&doing) => (),
+                None => moved.fitting.push(doing),
             }
         }
     }
-    next
+    moved
 }
+
+/// An expression with more runs of letters takes too long.
+const MOST_RUNS: usize = 60;
 
 struct Monitor {
     expr: Expr,
     letters: Vec<Letter>,
+    /// Whether both operands are copies of one production.
+    doubled: bool,
 }
 
 impl Monitor {
     fn random(numbers: &mut Numbers) -> Monitor {
         let count = 1 + numbers.below(6);
         let letters = (0..count).map(|_| Letter::random(numbers)).collect();
-        let mut expr = Expr::random(numbers, 0, count);
-        while expr.count_runs() > 60 {
-            expr = Expr::random(numbers, 0, count);
+        let mut expr = Expr::random(numbers, &ANY, 0, count);
+        while expr.count_runs() > MOST_RUNS {
+            expr = Expr::random(numbers, &ANY, 0, count);
         }
-        Monitor { expr, letters }
+        Monitor {
+            expr,
+            letters,
+            doubled: false,
+        }
     }
+
+    /// A random monitor that is accepted and has starts that can overlap.
+    fn with_threads(numbers: &mut Numbers) -> Monitor {
+        loop {
+            let doubled = numbers.below(4) == 0;
+            let count = if doubled { 2 } else { 3 } + numbers.below(4);
+            let mut expr = Expr::random(numbers, &MANY_THREADS, 0, count);
+            if doubled {
+                let join = [Sequence, Pipeline][numbers.below(2)];
+                let copy = expr.copy(count);
+                expr = join(Box::new(expr), Box::new(copy));
+            }
+            if expr.count_runs() > MOST_RUNS || !expr.has_long_thread() {
+                continue;
+            }
+            if let Some(letters) = accepted_letters(numbers, &expr, count, doubled) {
+                return Monitor {
+                    expr,
+                    letters,
+                    doubled,
+                };
+            }
+        }
+    }
+
+    /// The production of this monitor, with what stands above it.
+    fn text(&self, number: usize) -> String {
+        if self.doubled {
+            let half = self.expr.operands()[0].text(&self.letters);
+            let sign = self.expr.sign();
+            format!("t{number} -> {half}; p{number} -> t{number} {sign} t{number}; ")
+        } else {
+            format!("p{number} -> {}; ", self.expr.text(&self.letters))
+        }
+    }
+}
+
+/// Random letters, so many or twice so many, with which an expression is
+/// accepted; none if they are not soon found.
+fn accepted_letters(
+    numbers: &mut Numbers,
+    expr: &Expr,
+    count: usize,
+    twice: bool,
+) -> Option<Vec<Letter>> {
+    for _ in 0..20 {
+        let mut letters: Vec<Letter> = (0..count).map(|_| Letter::easy(numbers)).collect();
+        if twice {
+            letters.extend_from_within(..);
+        }
+        match shape_fault(expr, &letters) {
+            None => return Some(letters),
+            // No other letters can help.
+            Some((10 | 11, _)) => return None,
+            Some(_) => (),
+        }
+    }
+    None
 }
 
 /// All monitors between two ticks.
@@ -464,6 +682,12 @@ struct State<'e> {
     branches: Vec<Vec<Doing<'e>>>,
     stores: Stores,
     before: u64,
+}
+
+/// The lowest monitor that no longer fits.
+struct Fault<'e> {
+    monitor: usize,
+    clashes: Vec<Clash<'e>>,
 }
 
 impl<'e> State<'e> {
@@ -477,8 +701,8 @@ impl<'e> State<'e> {
         }
     }
 
-    /// The state after a word, or the lowest monitor that no longer fits.
-    fn after(&self, monitors: &'e [Monitor], word: u64) -> Result<Self, usize> {
+    /// The state after a word, if all monitors fit.
+    fn after(&self, monitors: &'e [Monitor], word: u64) -> Result<Self, Fault<'e>> {
         let mut next = State {
             branches: Vec::new(),
             stores: self.stores,
@@ -487,11 +711,15 @@ impl<'e> State<'e> {
         for (number, monitor) in monitors.iter().enumerate() {
             let met =
                 |letter: usize| monitor.letters[letter].meets(word, self.before, &self.stores);
-            let branches = next_branches(&self.branches[number], &monitor.expr, &met);
-            if branches.is_empty() {
-                return Err(number);
+            let moved = moved(&self.branches[number], &monitor.expr, &met);
+            if moved.fitting.is_empty() {
+                return Err(Fault {
+                    monitor: number,
+                    clashes: moved.clashes,
+                });
             }
-            let letters: BTreeSet<usize> = branches
+            let letters: BTreeSet<usize> = moved
+                .fitting
                 .iter()
                 .flatten()
                 .map(|(letter, _)| *letter)
@@ -502,9 +730,26 @@ impl<'e> State<'e> {
             {
                 next.stores[write.store] = (write.value)(word);
             }
-            next.branches.push(branches);
+            next.branches.push(moved.fitting);
         }
         Ok(next)
+    }
+
+    /// All starts of threads in all branches that had a letter.
+    fn starts(&self) -> impl Iterator<Item = (&'e Expr, &Ahead<'e>)> {
+        let starts = self.branches.iter().flatten().flatten();
+        starts.filter_map(|(_, ahead)| Some((ahead.thread()?, &**ahead)))
+    }
+
+    /// How many of them require another one.
+    fn going_on(&self) -> usize {
+        self.starts().filter(|(_, ahead)| !ahead.is_over()).count()
+    }
+
+    /// Whether a thread that is over now begins at the tick of `next`.
+    fn hands_over_to(&self, next: &State<'e>) -> bool {
+        let mut over = self.starts().filter(|(_, ahead)| ahead.is_over());
+        over.any(|(thread, _)| next.starts().any(|(_, ahead)| ahead.is_of(thread)))
     }
 }
 
@@ -519,22 +764,58 @@ struct Seen {
     bad: usize,
     written: usize,
     in_threads: usize,
+    /// Ticks at which a thread begins right behind its own last letter.
+    handed_over: usize,
+    looks: usize,
+    bad_looks: usize,
+    /// Those of them that nothing but a clash makes bad.
+    clashes: usize,
+    /// Those with both starts at the same letter.
+    in_one_place: usize,
+    /// Those of a thread inside a thread.
+    in_inner_threads: usize,
 }
 
-fn compare(numbers: &mut Numbers, seen: &mut Seen) {
-    let monitors: Vec<Monitor> = (0..1 + numbers.below(2))
-        .map(|_| Monitor::random(numbers))
-        .collect();
-    let mut text = String::from(DECLARED);
-    for (number, monitor) in monitors.iter().enumerate() {
-        text += &format!("p{number} -> {}; ", monitor.expr.text(&monitor.letters));
+impl Seen {
+    fn look(&mut self, outcome: &Result<State, Fault>, monitors: &[Monitor]) {
+        self.looks += 1;
+        let Err(fault) = outcome else {
+            return;
+        };
+        self.bad_looks += 1;
+        let Some(clash) = fault.clashes.first() else {
+            return;
+        };
+        self.clashes += 1;
+        self.in_one_place += usize::from(clash.letters[0] == clash.letters[1]);
+        let outer = monitors[fault.monitor].expr.threads().into_iter();
+        let mut inner = outer.flat_map(Expr::threads);
+        self.in_inner_threads += usize::from(inner.any(|thread| ptr::eq(thread, clash.thread)));
     }
-    text += if monitors.len() == 1 {
-        "monitor p0;"
-    } else {
-        "monitor p0, p1;"
-    };
 
+    fn take(&mut self, before: &State, after: &State) {
+        self.ok += 1;
+        self.written += usize::from(after.stores != before.stores);
+        self.in_threads += after.starts().count();
+        self.handed_over += usize::from(before.hands_over_to(after));
+    }
+}
+
+/// A text with these monitors.
+fn text_of(monitors: &[Monitor]) -> String {
+    let mut text = String::from(DECLARED);
+    let mut names = Vec::new();
+    for (number, monitor) in monitors.iter().enumerate() {
+        text += &monitor.text(number);
+        names.push(format!("p{number}"));
+    }
+    text + &format!("monitor {};", names.join(", "))
+}
+
+/// Opens a text of these monitors and judges some traces. Most of their words
+/// are drawn so many times among those that fit.
+fn compare(monitors: &[Monitor], picks: usize, numbers: &mut Numbers, seen: &mut Seen) {
+    let text = text_of(monitors);
     let faults = monitors
         .iter()
         .map(|monitor| shape_fault(&monitor.expr, &monitor.letters));
@@ -558,7 +839,7 @@ fn compare(numbers: &mut Numbers, seen: &mut Seen) {
             assert_eq!(program.rows() as usize, rows, "{text}");
             seen.accepted += 1;
             for _ in 0..4 {
-                run(&program, &monitors, numbers, seen, &text);
+                run(&program, monitors, picks, numbers, seen, &text);
             }
         }
         (Ok(_), Some(fault)) => panic!("accepted despite {fault:?}: {text}"),
@@ -569,6 +850,7 @@ fn compare(numbers: &mut Numbers, seen: &mut Seen) {
 fn run(
     program: &second::Program,
     monitors: &[Monitor],
+    picks: usize,
     numbers: &mut Numbers,
     seen: &mut Seen,
     text: &str,
@@ -577,37 +859,26 @@ fn run(
     let mut state = State::first(monitors.len());
     let mut words = Vec::new();
     for _ in 0..10 {
-        look_at_all(&watch, &state, monitors, text, &words);
-        // Mostly a word that fits, if there is one.
-        let mut word = numbers.below(WORDS as usize) as u64;
-        if numbers.below(16) != 0 {
-            let fitting: Vec<u64> = (0..WORDS)
-                .filter(|w| state.after(monitors, *w).is_ok())
-                .collect();
-            if !fitting.is_empty() {
-                word = fitting[numbers.below(fitting.len())];
-            }
+        let mut outcomes: Vec<_> = (0..WORDS).map(|w| state.after(monitors, w)).collect();
+        for (word, outcome) in outcomes.iter().enumerate() {
+            let answer = watch.look(word as u64);
+            assert_eq!(answer, expected(outcome), "{text} {words:?} {word}");
+            seen.look(outcome, monitors);
         }
+        let word = chosen(&outcomes, picks, numbers);
         words.push(word);
-        let answer = watch.take(word);
-        match state.after(monitors, word) {
+        let outcome = outcomes.swap_remove(word);
+        let answer = watch.take(word as u64);
+        assert_eq!(answer, expected(&outcome), "{text} {words:?}");
+        match outcome {
             Ok(next) => {
-                assert_eq!(answer, Answer::Ok, "{text} {words:?}");
                 assert_eq!(watch.stores(), next.stores, "{text} {words:?}");
-                assert_eq!(watch.word_before(), word, "{text} {words:?}");
+                assert_eq!(watch.word_before(), word as u64, "{text} {words:?}");
                 assert_eq!(watch.widest(), 1, "{text} {words:?}");
-                seen.ok += 1;
-                seen.written += usize::from(next.stores != state.stores);
-                seen.in_threads += next
-                    .branches
-                    .iter()
-                    .flatten()
-                    .filter(|doing| doing.len() > 1)
-                    .count();
+                seen.take(&state, &next);
                 state = next;
             }
-            Err(monitor) => {
-                assert_eq!(answer, Answer::Bad(monitor), "{text} {words:?}");
+            Err(_) => {
                 assert_eq!(watch.stores(), state.stores, "{text} {words:?}");
                 assert_eq!(watch.word_before(), state.before, "{text} {words:?}");
                 seen.bad += 1;
@@ -617,15 +888,28 @@ fn run(
     }
 }
 
-/// A look at any word says what becomes of it.
-fn look_at_all(watch: &Watch, state: &State, monitors: &[Monitor], text: &str, words: &[u64]) {
-    for word in 0..WORDS {
-        let expected = match state.after(monitors, word) {
-            Ok(_) => Answer::Ok,
-            Err(monitor) => Answer::Bad(monitor),
-        };
-        assert_eq!(watch.look(word), expected, "{text} {words:?} {word}");
+/// What a look or take of a word answers that has this outcome.
+fn expected(outcome: &Result<State, Fault>) -> Answer {
+    match outcome {
+        Ok(_) => Answer::Ok,
+        Err(fault) => Answer::Bad(fault.monitor),
     }
+}
+
+/// A word to take: mostly one that fits, if there is one, and after which the
+/// most starts go on.
+fn chosen(outcomes: &[Result<State, Fault>], picks: usize, numbers: &mut Numbers) -> usize {
+    let fitting: Vec<usize> = (0..outcomes.len())
+        .filter(|word| outcomes[*word].is_ok())
+        .collect();
+    if fitting.is_empty() || numbers.below(16) == 0 {
+        return numbers.below(outcomes.len());
+    }
+    let going_on = |word: &usize| outcomes[*word].as_ref().map_or(0, State::going_on);
+    (0..picks)
+        .map(|_| fitting[numbers.below(fitting.len())])
+        .max_by_key(going_on)
+        .expect("there is at least one pick")
 }
 
 #[test]
@@ -633,7 +917,9 @@ fn random_texts_agree_with_the_direct_meaning() {
     let mut numbers = Numbers(20_240_917);
     let mut seen = Seen::default();
     for _ in 0..20_000 {
-        compare(&mut numbers, &mut seen);
+        let count = 1 + numbers.below(2);
+        let monitors: Vec<_> = (0..count).map(|_| Monitor::random(&mut numbers)).collect();
+        compare(&monitors, 1, &mut numbers, &mut seen);
     }
     println!("{seen:?}");
     assert!(seen.accepted > 1_000, "{seen:?}");
@@ -643,4 +929,24 @@ fn random_texts_agree_with_the_direct_meaning() {
     );
     assert!(seen.ok > 10_000 && seen.bad > 500, "{seen:?}");
     assert!(seen.written > 500 && seen.in_threads > 500, "{seen:?}");
+}
+
+#[test]
+fn random_texts_whose_threads_overlap_agree_with_the_direct_meaning() {
+    let mut numbers = Numbers(5);
+    let mut seen = Seen::default();
+    for _ in 0..6_000 {
+        let count = 1 + numbers.below(2);
+        let monitors: Vec<_> = (0..count)
+            .map(|_| Monitor::with_threads(&mut numbers))
+            .collect();
+        compare(&monitors, 3, &mut numbers, &mut seen);
+    }
+    println!("{seen:?}");
+    assert_eq!(seen.accepted, 6_000, "{seen:?}");
+    assert!(seen.ok > 10_000 && seen.bad > 500, "{seen:?}");
+    assert!(seen.clashes > 10_000, "{seen:?}");
+    assert!(seen.in_one_place > 500, "{seen:?}");
+    assert!(seen.in_inner_threads > 500, "{seen:?}");
+    assert!(seen.handed_over > 500, "{seen:?}");
 }

@@ -191,8 +191,10 @@ fn many_threads_started_at_once() {
     }
     text += "monitor p85;";
     assert_eq!(counts(&text), (256 + 255, 256));
-    assert_eq!(last_line(&text, &[1, 3, 1, 3, 3]), "clean 5");
+    assert_eq!(last_line(&text, &[1, 3, 3, 3, 1]), "clean 5");
     assert_eq!(last_line(&text, &[1, 3, 1, 1]), "3 0000000000000001 bad 0");
+    // All of them have another letter to come, and all start again.
+    assert_eq!(last_line(&text, &[1, 3, 1, 3]), "3 0000000000000003 bad 0");
 }
 
 #[test]

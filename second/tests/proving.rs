@@ -45,7 +45,11 @@ fn open_end_and_impossible_rows() {
 
 #[test]
 fn pipeline_rows() {
-    assert_eq!(last_line(&abc("a @ (b, c)"), &[1, 3, 7]), "clean 3");
+    // Both starts require a letter at 2, whatever the word.
+    assert_eq!(
+        last_line(&abc("a @ (b, c)"), &[1, 3, 7]),
+        "2 0000000000000007 bad 0"
+    );
     assert_eq!(
         last_line(&abc("a @ (b, c)"), &[1, 3, 3]),
         "2 0000000000000003 bad 0"
@@ -105,17 +109,23 @@ fn misreading_a_test_does_not_see_a_write_of_its_own_tick() {
 }
 
 #[test]
-fn misreading_both_runs_of_a_thread_must_fit() {
+fn misreading_the_older_start_of_a_thread_is_not_dropped() {
     let text = abc("a @ (!b, !c) || !a");
-    // Started at 0 and 1: the older run asks for !c at 2, the younger at 3.
+    // Called for at 0 and 1: at 2 the older start requires !c, the younger !b.
     assert_eq!(last_line(&text, &[1, 1, 5]), "2 0000000000000005 bad 0");
-    assert_eq!(last_line(&text, &[1, 1, 0, 4]), "3 0000000000000004 bad 0");
-    assert_eq!(last_line(&text, &[1, 1, 0, 0, 4]), "clean 5");
+    assert_eq!(last_line(&text, &[1, 1, 0]), "2 0000000000000000 bad 0");
+    // Called for at 0 and 2: at 3 the older one is over.
+    assert_eq!(last_line(&text, &[1, 0, 5]), "2 0000000000000005 bad 0");
+    assert_eq!(
+        last_line(&text, &[1, 0, 1, 0, 4]),
+        "4 0000000000000004 bad 0"
+    );
+    assert_eq!(last_line(&text, &[1, 0, 1, 4, 0]), "clean 5");
 }
 
 #[test]
-fn two_starts_in_the_same_place_count_as_one() {
-    // Both threads of the pipeline start at the same tick and are the same.
+fn two_threads_can_start_at_the_same_tick() {
+    // Both threads of the pipeline are copies of one production.
     let text = "input a; input b; t -> b, !b; p -> (a @ t) @ t; monitor p;";
     assert_eq!(last_line(text, &[1, 3, 1]), "2 0000000000000001 bad 0");
     assert_eq!(last_line(text, &[1, 2]), "1 0000000000000002 bad 0");

@@ -1,18 +1,18 @@
 -- The positions are right: the machine goes on exactly where the ticks fit, and they are the letters met.
 use mathlib.Core.List.{List, [], _∷_, _++_, map, append-nil}
 use mathlib.Core.Bool.{Bool, true, false, cond}
-use mathlib.Core.Option.{Option, none, some, Option·none-ne-some}
+use mathlib.Core.Option.{Option, none, some, Option·none-ne-some, Option·some-injective}
 use mathlib.Core.Path.{_≡_, refl, sym, ap, ap₂, _∙_, subst, fun-ext}
 use mathlib.Core.Logic.{⊎-elim}
 use Prim.Native.Nat.{ℕ, suc}
 use lib.Dec.{T, T-not, eqb, eqb→eq, eqb-refl}
 use lib.ListN.{length, getD}
-use Rattle.meaning.specs.Lists.{only, _∈_}
+use Rattle.meaning.specs.Lists.{all, only, _∈_}
 use Rattle.meaning.specs.Expression.{Letter, Exp, letter, seq, alt, star, pipe, letters}
 use Rattle.meaning.specs.Shape.{nullable}
 use Rattle.meaning.specs.Fit.{Tick, meets, Run, Rest, pastTheEnd, anything, merge, both, runs}
 use Rattle.meaning.specs.Positions.{Way, over, joined, Entered, met, passed, blocked, orEnter, orPass, enter, goesBy, ask, has, leave, Positions, at-start, on}
-use Rattle.meaning.proofs.ListLaws.{here, no-∈, append-∈, ∈-left, ∈-right, ∈-map, map-∈, one-∈, T-and, T-or-left, T-or-right, is-true, is-false, any-from, any-to}
+use Rattle.meaning.proofs.ListLaws.{here, no-∈, append-∈, ∈-left, ∈-right, ∈-map, map-∈, one-∈, T-and, and-T, T-or-left, T-or-right, is-true, is-false, any-from, any-to}
 use Rattle.meaning.proofs.Step.{Solid, unroll, ended, Good, goesOn, afters, Placed, good-both, good-anything, ∈-both, both-∈}
 use Rattle.meaning.proofs.Entering.{goes-then}
 use Rattle.meaning.proofs.OneWay.{Same, Apart, Numbered}
@@ -95,8 +95,12 @@ leads-cond : (b : Bool) (o p : Option (List ℕ)) (A B : List Run) → Leads o A
 leads-cond true o p A B g h = g
 leads-cond false o p A B g h = h
 
+-- no thread is busy: every start is let in, as in `branches`, which F17 has not judged
+abbrev pub idle : Exp → Bool
+idle f = false
+
 pub leave-leads : (n : ℕ) (e : Exp) (K : Rest) (W : Way) → Solid e → K [] ≡ pastTheEnd → (t : Tick) → Leads (W t) (K (t ∷ []))
-    → Leads (leave n e W t) (after n e K (t ∷ []))
+    → Leads (leave idle n e W t) (after n e K (t ∷ []))
 unfolding after leave merge
 leave-leads n (letter l) K W s k t h = h
 leave-leads n (seq e f) K W s k t h = leads-cond (has n e) _ _ _ _
@@ -169,6 +173,22 @@ unfoldable pub positionsAfter : (Positions → Way) → Positions → List Tick 
 positionsAfter W x [] = some x
 positionsAfter W x (t ∷ ts) = then (W x t) (λ ns. positionsAfter W (on ns) ts)
 
+-- P judges the letters of a tick; only a way whose letters pass goes on
+abbrev pub passing : (P : List ℕ → Bool) → Option (List ℕ) → Option (List ℕ)
+passing P none = none
+passing P (some ns) = cond (P ns) (some ns) none
+
+pub passing-some : (P : List ℕ → Bool) (o : Option (List ℕ)) (ns : List ℕ) → passing P o ≡ some ns → (o ≡ some ns) × T (P ns)
+passing-some P none ns p = absurd (Option·none-ne-some ns p)
+passing-some P (some ms) ns p = by (P ms) refl p
+  where
+    by : (b : Bool) → P ms ≡ b → cond b (some ms) none ≡ some ns → (some ms ≡ some ns) × T (P ns)
+    by true e q = (q, subst (λ z. T (P z)) (Option·some-injective ms ns q) (rw e tt))
+    by false e q = absurd (Option·none-ne-some ns q)
+
+pub passing-yes : (P : List ℕ → Bool) (o : Option (List ℕ)) (ns : List ℕ) → o ≡ some ns → T (P ns) → passing P o ≡ some ns
+passing-yes P o ns e h = ap (passing P) e ∙ ap (λ b. cond b (some ns) none) (is-true (P ns) h)
+
 -- start is what must fit from the start, and G what must fit after each letter
 abbrev pub rest : Rest → (ℕ → Rest) → Positions → Rest
 rest start G at-start = start
@@ -196,7 +216,11 @@ pub record Exact (start : Rest) (G : ℕ → Rest) (W : Positions → Way) : Typ
   pub G-same : (n : ℕ) (t : Tick) → Same t (G n)
   pub goes : (x : Positions) (t : Tick) → Leads (W x t) (rest start G x (t ∷ []))
 
-module _ (start : Rest) (G : ℕ → Rest) (W : Positions → Way) (ex : Exact start G W) where
+module _ (start : Rest) (G : ℕ → Rest) (W : Positions → Way) (ex : Exact start G W) (P : List ℕ → Bool) (P-nil : T (P [])) where
+  -- the machine, whose letters must pass
+  abbrev machine : Positions → Way
+  machine x t = passing P (W x t)
+
   afters-ends : (ns : List ℕ) → afters G ns [] ≡ pastTheEnd
   unfolding afters merge
   afters-ends [] = refl
@@ -231,16 +255,19 @@ module _ (start : Rest) (G : ℕ → Rest) (W : Positions → Way) (ex : Exact s
   way-of : (x : Positions) (t : Tick) (q : Run) → q ∈ rest start G x (t ∷ []) → W x t ≡ some (front q)
   way-of x t q i = leads-to (rest start G x (t ∷ [])) (rest-same x t) (W x t) (ex .goes x t) q i
 
-  -- a run gone on with: its front, then a run of what follows the front's letters
-  go-in : (q : Run) (ts : List Tick) (r : Run) → r ∈ goesOn G q ts → (s : Run) × (s ∈ afters G (front q) ts) × ((k : ℕ) → getD r (suc k) [] ≡ getD s k [])
+  -- a run gone on with: its front, then a run of what follows the front's letters; it passes if these do
+  go-in : (q : Run) (ts : List Tick) (r : Run) → r ∈ goesOn G q ts
+      → (s : Run) × (s ∈ afters G (front q) ts) × ((k : ℕ) → getD r (suc k) [] ≡ getD s k []) × (T (all P r) → T (P (front q)) × T (all P s))
   unfolding goesOn afters
-  go-in [] ts r i = ([], here refl, λ k. ap (λ z. getD z (suc k) []) (one-∈ i))
-  go-in (ns ∷ q) ts r i = let (s, j, p) = map-∈ (λ z. ns ∷ z) (afters G ns ts) i in (s, j, λ k. ap (λ z. getD z (suc k) []) (sym p))
+  go-in [] ts r i = ([], here refl, λ k. ap (λ z. getD z (suc k) []) (one-∈ i), λ h. (P-nil, tt))
+  go-in (ns ∷ q) ts r i =
+      let (s, j, p) = map-∈ (λ z. ns ∷ z) (afters G ns ts) i in
+      (s, j, λ k. ap (λ z. getD z (suc k) []) (sym p), λ h. and-T (P ns) (all P s) (subst (λ z. T (all P z)) (sym p) h))
 
-  go-out : (q : Run) (ts : List Tick) (s : Run) → s ∈ afters G (front q) ts → (r : Run) × (r ∈ goesOn G q ts)
+  go-out : (q : Run) (ts : List Tick) (s : Run) → s ∈ afters G (front q) ts → T (P (front q)) → T (all P s) → (r : Run) × (r ∈ goesOn G q ts) × T (all P r)
   unfolding goesOn afters
-  go-out [] ts s i = ([], here refl)
-  go-out (ns ∷ q) ts s i = (ns ∷ s, ∈-map (λ z. ns ∷ z) i)
+  go-out [] ts s i g h = ([], here refl, tt)
+  go-out (ns ∷ q) ts s i g h = (ns ∷ s, ∈-map (λ z. ns ∷ z) i, T-and (P ns) (all P s) g h)
 
   same-on : (q : Run) (ts : List Tick) → ((r s : Run) → r ∈ afters G (front q) ts → s ∈ afters G (front q) ts → r ≡ s)
       → (r s : Run) → r ∈ goesOn G q ts → s ∈ goesOn G q ts → r ≡ s
@@ -251,37 +278,43 @@ module _ (start : Rest) (G : ℕ → Rest) (W : Positions → Way) (ex : Exact s
       let (b, l, e) = map-∈ (λ z. ns ∷ z) (afters G ns ts) j in
       sym p ∙ ap (λ z. ns ∷ z) (h a b k l) ∙ e
 
-  -- where the machine goes on there is a run
-  pub runs-if : (ts : List Tick) (x y : Positions) → positionsAfter W x ts ≡ some y → (r : Run) × (r ∈ rest start G x ts)
+  -- where the machine goes on there is a run that passes
+  pub runs-if : (ts : List Tick) (x y : Positions) → positionsAfter machine x ts ≡ some y → (r : Run) × (r ∈ rest start G x ts) × T (all P r)
   unfolding positionsAfter
-  runs-if [] x y p = ([], rw (rest-ends x) (here refl))
+  runs-if [] x y p = ([], rw (rest-ends x) (here refl), tt)
   runs-if (t ∷ ts) x y p =
-      let (ns, a, b) = then-some (W x t) (λ ns. positionsAfter W (on ns) ts) y p in
-      let (q, i, e) = subst (λ o. Leads o (rest start G x (t ∷ []))) a (ex .goes x t) in
-      let (s, j) = runs-if ts (on ns) y b in
-      let (r, k) = go-out q ts s (subst (λ z. s ∈ afters G z ts) (sym e) j) in
-      (r, rest-good x .from t ts q r i k)
+      let (ns, a, b) = then-some (machine x t) (λ ns. positionsAfter machine (on ns) ts) y p in
+      let (c, g) = passing-some P (W x t) ns a in
+      let (q, i, e) = subst (λ o. Leads o (rest start G x (t ∷ []))) c (ex .goes x t) in
+      let (s, j, h) = runs-if ts (on ns) y b in
+      let (r, k, d) = go-out q ts s (subst (λ z. s ∈ afters G z ts) (sym e) j) (subst (λ z. T (P z)) (sym e) g) h in
+      (r, rest-good x .from t ts q r i k, d)
 
-  -- where there is a run the machine goes on
-  pub goes-if : (ts : List Tick) (x : Positions) (r : Run) → r ∈ rest start G x ts → (y : Positions) × (positionsAfter W x ts ≡ some y)
+  -- where there is one the machine goes on
+  pub goes-if : (ts : List Tick) (x : Positions) (r : Run) → r ∈ rest start G x ts → T (all P r) → (y : Positions) × (positionsAfter machine x ts ≡ some y)
   unfolding positionsAfter
-  goes-if [] x r i = (x, refl)
-  goes-if (t ∷ ts) x r i =
+  goes-if [] x r i h = (x, refl)
+  goes-if (t ∷ ts) x r i h =
       let (q, j, m) = rest-good x .to t ts r i in
-      let (s, l, g) = go-in q ts r m in
-      let (y, p) = goes-if ts (on (front q)) s l in
-      (y, ap (λ o. then o (λ ns. positionsAfter W (on ns) ts)) (way-of x t q j) ∙ p)
+      let (s, l, g, d) = go-in q ts r m in
+      let (y, p) = goes-if ts (on (front q)) s l (d h .1) in
+      (y, ap (λ o. then o (λ ns. positionsAfter machine (on ns) ts)) (passing-yes P (W x t) (front q) (way-of x t q j) (d h .0)) ∙ p)
 
   -- and then its positions are the letters of the last tick
-  pub positions-if : (ts : List Tick) (t : Tick) (x : Positions) (r : Run) → r ∈ rest start G x (ts ++ t ∷ [])
-      → positionsAfter W x (ts ++ t ∷ []) ≡ some (on (getD r (length ts) []))
+  pub positions-if : (ts : List Tick) (t : Tick) (x : Positions) (r : Run) → r ∈ rest start G x (ts ++ t ∷ []) → T (all P r)
+      → positionsAfter machine x (ts ++ t ∷ []) ≡ some (on (getD r (length ts) []))
   unfolding positionsAfter
-  positions-if [] t x r i = ap (λ o. then o (λ ns. some (on ns))) (way-of x t r i) ∙ ap (λ z. some (on z)) (front-at r)
-  positions-if (u ∷ ts) t x r i =
+  positions-if [] t x r i h =
+      ap (λ o. then o (λ ns. some (on ns))) (passing-yes P (W x t) (front r) (way-of x t r i) (front-passes r h)) ∙ ap (λ z. some (on z)) (front-at r)
+    where
+      front-passes : (r : Run) → T (all P r) → T (P (front r))
+      front-passes [] h = P-nil
+      front-passes (ns ∷ r) h = and-T (P ns) (all P r) h .0
+  positions-if (u ∷ ts) t x r i h =
       let (q, j, m) = rest-good x .to u (ts ++ t ∷ []) r i in
-      let (s, l, g) = go-in q (ts ++ t ∷ []) r m in
-      ap (λ o. then o (λ ns. positionsAfter W (on ns) (ts ++ t ∷ []))) (way-of x u q j)
-      ∙ positions-if ts t (on (front q)) s l
+      let (s, l, g, d) = go-in q (ts ++ t ∷ []) r m in
+      ap (λ o. then o (λ ns. positionsAfter machine (on ns) (ts ++ t ∷ []))) (passing-yes P (W x u) (front q) (way-of x u q j) (d h .0))
+      ∙ positions-if ts t (on (front q)) s l (d h .1)
       ∙ ap (λ z. some (on z)) (sym (g (length ts)))
 
   -- there is only one run, though several branches may have it

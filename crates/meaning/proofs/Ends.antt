@@ -8,7 +8,7 @@ use Prim.Native.Nat.{ℕ, zero, suc, _≤_}
 use native.Mathlib.Omega.{arith}
 use lib.Dec.{eqb, eqb→eq, eqb-refl}
 use Rattle.meaning.specs.Fit.{Tick}
-use Rattle.meaning.specs.Positions.{joined, Entered, passed, thenEnter, orEnter, orPass, goesBy}
+use Rattle.meaning.specs.Positions.{joined, Entered, passed, blocked, thenEnter, orEnter, orPass, goesBy}
 use Rattle.meaning.specs.Table.{Under, Kind, is-letter, is-seq, is-alt, is-star, is-pipe, Table}
 use Rattle.meaning.specs.RowWalk.{enterBy, leaveBy, enterRow, askRow, leaveRow}
 use Rattle.meaning.proofs.ListLaws.{is-true, is-false}
@@ -39,15 +39,15 @@ EnterEnds (suc n) R r = entersBy (R r .kind) (EnterEnds n R (R r .left)) (EnterE
 
 -- asking row r at a tick, leaving it
 unfoldable mutual
-  pub AskEnds : ℕ → Table → ℕ → Tick → Type 0
-  AskEnds zero R r t = ⊥
-  AskEnds (suc n) R r t = EnterEnds n R r × (enterRow n R r t ≡ passed → LeaveEnds n R r t)
+  pub AskEnds : (ℕ → Bool) → ℕ → Table → ℕ → Tick → Type 0
+  AskEnds shut zero R r t = ⊥
+  AskEnds shut (suc n) R r t = EnterEnds n R r × (enterRow shut n R r t ≡ passed → LeaveEnds shut n R r t)
 
-  pub LeaveEnds : ℕ → Table → ℕ → Tick → Type 0
-  LeaveEnds zero R r t = ⊥
-  LeaveEnds (suc n) R r t =
-      cond (eqb (R r .up) r) (AskEnds n R r t)
-      (leavesBy (R (R r .up) .kind) (eqb r (R (R r .up) .left)) (AskEnds n R (R (R r .up) .right) t) (LeaveEnds n R (R r .up) t) (AskEnds n R (R r .up) t))
+  pub LeaveEnds : (ℕ → Bool) → ℕ → Table → ℕ → Tick → Type 0
+  LeaveEnds shut zero R r t = ⊥
+  LeaveEnds shut (suc n) R r t =
+      cond (eqb (R r .up) r) (AskEnds shut n R r t)
+      (leavesBy (R (R r .up) .kind) (eqb r (R (R r .up) .left)) (AskEnds shut n R (R (R r .up) .right) t) (LeaveEnds shut n R (R r .up) t) (AskEnds shut n R (R r .up) t))
 
 -- ---- the calls looked at are all that counts ----
 
@@ -97,29 +97,29 @@ own-same : (o : Bool) {a b : Type 0} {x y x′ y′ : Option (List ℕ)} → (a 
 own-same true f g e = f e
 own-same false f g e = g e
 
-module _ (R : Table) where
+module _ (shut : ℕ → Bool) (R : Table) where
   -- ---- a greater count changes nothing ----
 
-  pub ends-enter : (n m r : ℕ) → EnterEnds n R r → n ≤ m → EnterEnds m R r × ((t : Tick) → enterRow m R r t ≡ enterRow n R r t)
+  pub ends-enter : (n m r : ℕ) → EnterEnds n R r → n ≤ m → EnterEnds m R r × ((t : Tick) → enterRow shut m R r t ≡ enterRow shut n R r t)
   unfolding EnterEnds enterRow
   ends-enter zero m r e h = absurd e
   ends-enter (suc n) zero r e h = absurd (omega arith)
   ends-enter (suc n) (suc m) r e h = (
     enters-mono (R r .kind) (λ x. ends-enter n m (R r .left) x (omega arith) .0) (λ x. ends-enter n m (R r .right) x (omega arith) .0) e,
-    λ t. enters-same (R r .kind) t (λ x. ends-enter n m (R r .left) x (omega arith) .1 t) (λ x. ends-enter n m (R r .right) x (omega arith) .1 t) e,
+    λ t. ap (cond (shut r) blocked) (enters-same (R r .kind) t (λ x. ends-enter n m (R r .left) x (omega arith) .1 t) (λ x. ends-enter n m (R r .right) x (omega arith) .1 t) e),
   )
 
   mutual
     unfolding AskEnds askRow
 
-    pub ends-ask : (n m r : ℕ) (t : Tick) → AskEnds n R r t → n ≤ m → AskEnds m R r t × (askRow m R r t ≡ askRow n R r t)
+    pub ends-ask : (n m r : ℕ) (t : Tick) → AskEnds shut n R r t → n ≤ m → AskEnds shut m R r t × (askRow shut m R r t ≡ askRow shut n R r t)
     ends-ask zero m r t e h = absurd e
     ends-ask (suc n) zero r t e h = absurd (omega arith)
     ends-ask (suc n) (suc m) r t e h =
         let (i, q) = ends-enter n m r (e .0) (omega arith) in
-        ((i, λ p. ends-leave n m r t (e .1 (sym (q t) ∙ p)) (omega arith) .0), goes-same (enterRow n R r t) (q t) (λ p. ends-leave n m r t (e .1 p) (omega arith) .1))
+        ((i, λ p. ends-leave n m r t (e .1 (sym (q t) ∙ p)) (omega arith) .0), goes-same (enterRow shut n R r t) (q t) (λ p. ends-leave n m r t (e .1 p) (omega arith) .1))
 
-    pub ends-leave : (n m r : ℕ) (t : Tick) → LeaveEnds n R r t → n ≤ m → LeaveEnds m R r t × (leaveRow m R r t ≡ leaveRow n R r t)
+    pub ends-leave : (n m r : ℕ) (t : Tick) → LeaveEnds shut n R r t → n ≤ m → LeaveEnds shut m R r t × (leaveRow shut m R r t ≡ leaveRow shut n R r t)
     ends-leave zero m r t e h = absurd e
     ends-leave (suc n) zero r t e h = absurd (omega arith)
     ends-leave (suc n) (suc m) r t e h = (
@@ -140,39 +140,40 @@ module _ (R : Table) where
         let calls : Kind → Type 0 = λ κ. entersBy κ (EnterEnds n R (R r .left)) (EnterEnds n R (R r .right)) in
         (subst calls is, subst calls (sym is))
 
-    pub enter-once : (n : ℕ) (t : Tick) → enterRow (suc n) R r t ≡ enterBy k t (enterRow n R (R r .left) t) (enterRow n R (R r .right) t)
+    pub enter-once : (n : ℕ) (t : Tick) → enterRow shut (suc n) R r t ≡ cond (shut r) blocked (enterBy k t (enterRow shut n R (R r .left) t) (enterRow shut n R (R r .right) t))
     unfolding enterRow
-    enter-once n t = ap (λ κ. enterBy κ t (enterRow n R (R r .left) t) (enterRow n R (R r .right) t)) is
+    enter-once n t = ap (λ κ. cond (shut r) blocked (enterBy κ t (enterRow shut n R (R r .left) t) (enterRow shut n R (R r .right) t))) is
 
     -- where n calls are enough, N are not fewer, and all calls may have N
-    pub enter-unfolds : (n N : ℕ) → EnterEnds n R r → n ≤ N → (t : Tick) → enterRow N R r t ≡ enterBy k t (enterRow N R (R r .left) t) (enterRow N R (R r .right) t)
+    pub enter-unfolds : (n N : ℕ) → EnterEnds n R r → n ≤ N → (t : Tick) → enterRow shut N R r t ≡ cond (shut r) blocked (enterBy k t (enterRow shut N R (R r .left) t) (enterRow shut N R (R r .right) t))
     unfolding EnterEnds
     enter-unfolds zero N e h t = absurd e
     enter-unfolds (suc n) N e h t =
         ends-enter (suc n) N r e h .1 t ∙ enter-once n t
-        ∙ enters-same k t (λ x. sym (ends-enter n N (R r .left) x (omega arith) .1 t)) (λ x. sym (ends-enter n N (R r .right) x (omega arith) .1 t)) (enter-calls n .0 e)
+        ∙ ap (cond (shut r) blocked)
+        (enters-same k t (λ x. sym (ends-enter n N (R r .left) x (omega arith) .1 t)) (λ x. sym (ends-enter n N (R r .right) x (omega arith) .1 t)) (enter-calls n .0 e))
 
   -- ---- row r is asked ----
 
   module _ (r : ℕ) where
-    pub ask-calls : (n : ℕ) (t : Tick) → AskEnds (suc n) R r t ↔ (EnterEnds n R r × (enterRow n R r t ≡ passed → LeaveEnds n R r t))
+    pub ask-calls : (n : ℕ) (t : Tick) → AskEnds shut (suc n) R r t ↔ (EnterEnds n R r × (enterRow shut n R r t ≡ passed → LeaveEnds shut n R r t))
     unfolding AskEnds
     ask-calls n t = (λ e. e, λ e. e)
 
-    pub ask-once : (n : ℕ) (t : Tick) → askRow (suc n) R r t ≡ goesBy (enterRow n R r t) (leaveRow n R r t)
+    pub ask-once : (n : ℕ) (t : Tick) → askRow shut (suc n) R r t ≡ goesBy (enterRow shut n R r t) (leaveRow shut n R r t)
     unfolding askRow
     ask-once n t = refl
 
     -- entering it passes, whatever count that has: leaving it ends
-    pub passes-on : (n N : ℕ) (t : Tick) → AskEnds (suc n) R r t → n ≤ N → enterRow N R r t ≡ passed → LeaveEnds n R r t
+    pub passes-on : (n N : ℕ) (t : Tick) → AskEnds shut (suc n) R r t → n ≤ N → enterRow shut N R r t ≡ passed → LeaveEnds shut n R r t
     passes-on n N t e h p = let (i, l) = ask-calls n t .0 e in l (sym (ends-enter n N r i h .1 t) ∙ p)
 
-    pub ask-unfolds : (n N : ℕ) (t : Tick) → AskEnds n R r t → n ≤ N → askRow N R r t ≡ goesBy (enterRow N R r t) (leaveRow N R r t)
+    pub ask-unfolds : (n N : ℕ) (t : Tick) → AskEnds shut n R r t → n ≤ N → askRow shut N R r t ≡ goesBy (enterRow shut N R r t) (leaveRow shut N R r t)
     unfolding AskEnds
     ask-unfolds zero N t e h = absurd e
     ask-unfolds (suc n) N t e h =
         ends-ask (suc n) N r t e h .1 ∙ ask-once n t
-        ∙ goes-same (enterRow N R r t) (sym (ends-enter n N r (e .0) (omega arith) .1 t))
+        ∙ goes-same (enterRow shut N R r t) (sym (ends-enter n N r (e .0) (omega arith) .1 t))
         (λ p. sym (ends-leave n N r t (passes-on n N t e (omega arith) p) (omega arith) .1))
 
   -- ---- operand c of row r, of kind k, is left; o: it is the left one ----
@@ -181,19 +182,19 @@ module _ (R : Table) where
     no-monitor : eqb (R c .up) c ≡ false
     no-monitor = is-false (eqb (R c .up) c) (λ e. under .1 (sym (eqb→eq (R c .up) c e) ∙ under .0))
 
-    pub leave-calls : (n : ℕ) (t : Tick) → LeaveEnds (suc n) R c t ↔ leavesBy k o (AskEnds n R (R r .right) t) (LeaveEnds n R r t) (AskEnds n R r t)
+    pub leave-calls : (n : ℕ) (t : Tick) → LeaveEnds shut (suc n) R c t ↔ leavesBy k o (AskEnds shut n R (R r .right) t) (LeaveEnds shut n R r t) (AskEnds shut n R r t)
     unfolding LeaveEnds
     leave-calls n t = (
       λ e. rw (← is, ← side, ← under .0) (rw no-monitor at e),
       λ e. rw (no-monitor, under .0, is, side) e,
     )
 
-    pub leave-once : (n : ℕ) (t : Tick) → leaveRow (suc n) R c t ≡ leaveBy k o (askRow n R (R r .right) t) (leaveRow n R r t) (askRow n R r t)
+    pub leave-once : (n : ℕ) (t : Tick) → leaveRow shut (suc n) R c t ≡ leaveBy k o (askRow shut n R (R r .right) t) (leaveRow shut n R r t) (askRow shut n R r t)
     unfolding leaveRow
     leave-once n t = rw (no-monitor, under .0, is, side)
 
-    pub leave-unfolds : (n N : ℕ) (t : Tick) → LeaveEnds n R c t → n ≤ N
-        → leaveRow N R c t ≡ leaveBy k o (askRow N R (R r .right) t) (leaveRow N R r t) (askRow N R r t)
+    pub leave-unfolds : (n N : ℕ) (t : Tick) → LeaveEnds shut n R c t → n ≤ N
+        → leaveRow shut N R c t ≡ leaveBy k o (askRow shut N R (R r .right) t) (leaveRow shut N R r t) (askRow shut N R r t)
     unfolding LeaveEnds
     leave-unfolds zero N t e h = absurd e
     leave-unfolds (suc n) N t e h =
@@ -207,15 +208,15 @@ module _ (R : Table) where
     is-monitor : eqb (R r .up) r ≡ true
     is-monitor = is-true (eqb (R r .up) r) (rw own (eqb-refl r))
 
-    pub own-calls : (n : ℕ) (t : Tick) → LeaveEnds (suc n) R r t ↔ AskEnds n R r t
+    pub own-calls : (n : ℕ) (t : Tick) → LeaveEnds shut (suc n) R r t ↔ AskEnds shut n R r t
     unfolding LeaveEnds
     own-calls n t = (λ e. rw is-monitor at e, λ e. rw is-monitor e)
 
-    pub own-once : (n : ℕ) (t : Tick) → leaveRow (suc n) R r t ≡ askRow n R r t
+    pub own-once : (n : ℕ) (t : Tick) → leaveRow shut (suc n) R r t ≡ askRow shut n R r t
     unfolding leaveRow
     own-once n t = rw is-monitor
 
-    pub own-unfolds : (n N : ℕ) (t : Tick) → LeaveEnds n R r t → n ≤ N → leaveRow N R r t ≡ askRow N R r t
+    pub own-unfolds : (n N : ℕ) (t : Tick) → LeaveEnds shut n R r t → n ≤ N → leaveRow shut N R r t ≡ askRow shut N R r t
     unfolding LeaveEnds
     own-unfolds zero N t e h = absurd e
     own-unfolds (suc n) N t e h = ends-leave (suc n) N r t e h .1 ∙ own-once n t ∙ sym (ends-ask n N r t (own-calls n t .0 e) (omega arith) .1)

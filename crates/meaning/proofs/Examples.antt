@@ -5,8 +5,8 @@ use mathlib.Core.List.{List, [], _∷_, _++_}
 use Prim.Native.Nat.{ℕ}
 use Rattle.lexer.specs.Bytes.{isWhite, isDigit, isLetter, run, same, lookup}
 use Rattle.lexer.specs.Tokens.{nameToken, valueFrom, numberToken, signToken, firstToken, nextToken, tokenAt, tokensFrom, tokensAt}
-use Rattle.meaning.specs.Expression.{Exp, letters, size, rows, renumbered, storeTests}
-use Rattle.meaning.specs.Fit.{fits, meets, merge, rounds, runs, writeMet, onward, verdict}
+use Rattle.meaning.specs.Expression.{Exp, letters, own, size, rows, renumbered, storeTests}
+use Rattle.meaning.specs.Fit.{fits, meets, merge, rounds, runs, occupied, writeMet, onward, verdict}
 use Rattle.meaning.specs.Shape.{nullable, first, last, follow, threads, parts, meetsWires}
 use Rattle.meaning.specs.ShapeTests.{agree, together, unsatisfiable, nullables, openEnds, ambiguous, shape}
 use Rattle.meaning.specs.Reading.{choose, onName, onNumber, ifName, ifNumber, unless, byKind, known, newName, notHere, atToken, literalName, behindOperand, behindLiteral, step, readOn, read}
@@ -27,8 +27,8 @@ AllHold [] = Unit {0}
 AllHold (x ∷ xs) = Holds x × AllHold xs
 
 pub examples-hold : AllHold examples
-unfolding choose onName onNumber ifName ifNumber unless byKind known newName notHere atToken isWhite isDigit isLetter run same lookup nameToken valueFrom numberToken signToken firstToken nextToken tokenAt tokensFrom tokensAt letters size rows renumbered meets merge rounds runs writeMet onward verdict nullable first last follow threads agree together unsatisfiable parts nullables openEnds ambiguous shape meetsWires declare storeTests literalName behindOperand behindLiteral step readOn read asOpened tooLong misshapen openProgram openText countsOf reply digit number count picked recordOf differs changes written newByte merged idle readRecord writeAll writeTrace sheet tickLines cleanLine countsLine refusalLine line decimal digitsIn hexadecimal
-examples-hold = ((refl, (refl, (refl, (refl, (refl, (refl, (refl, (refl, (refl, (refl, (refl, (refl, (refl, (refl, (refl, (refl, (refl, (refl, (refl, (refl, tt)))))))))))))))))))))
+unfolding own occupied choose onName onNumber ifName ifNumber unless byKind known newName notHere atToken isWhite isDigit isLetter run same lookup nameToken valueFrom numberToken signToken firstToken nextToken tokenAt tokensFrom tokensAt letters size rows renumbered meets merge rounds runs writeMet onward verdict nullable first last follow threads agree together unsatisfiable parts nullables openEnds ambiguous shape meetsWires declare storeTests literalName behindOperand behindLiteral step readOn read asOpened tooLong misshapen openProgram openText countsOf reply digit number count picked recordOf differs changes written newByte merged idle readRecord writeAll writeTrace sheet tickLines cleanLine countsLine refusalLine line decimal digitsIn hexadecimal
+examples-hold = (refl, (refl, (refl, (refl, (refl, (refl, (refl, (refl, (refl, (refl, (refl, (refl, (refl, (refl, (refl, (refl, (refl, (refl, (refl, (refl, (refl, (refl, (refl, (refl, (refl, (refl, tt))))))))))))))))))))))))))
 
 -- looks and takes on the watch that a text opens, and none on one that it does not
 abbrev repliesTo : Answer Opened → List Call → List Reply
@@ -40,7 +40,7 @@ AllAnswered [] = Unit {0}
 AllAnswered (x ∷ xs) = (repliesTo (openText (x .text)) (x .calls) ≡ x .replies) × AllAnswered xs
 
 pub dialogues-hold : AllAnswered dialogues
-unfolding choose onName onNumber ifName ifNumber unless byKind known newName notHere atToken isWhite isDigit isLetter run same lookup nameToken valueFrom numberToken signToken firstToken nextToken tokenAt tokensFrom tokensAt letters size rows renumbered meets merge rounds runs writeMet onward verdict nullable first last follow threads agree together unsatisfiable parts nullables openEnds ambiguous shape meetsWires declare storeTests literalName behindOperand behindLiteral step readOn read asOpened tooLong misshapen openProgram openText reply repliesFrom
+unfolding own occupied choose onName onNumber ifName ifNumber unless byKind known newName notHere atToken isWhite isDigit isLetter run same lookup nameToken valueFrom numberToken signToken firstToken nextToken tokenAt tokensFrom tokensAt letters size rows renumbered meets merge rounds runs writeMet onward verdict nullable first last follow threads agree together unsatisfiable parts nullables openEnds ambiguous shape meetsWires declare storeTests literalName behindOperand behindLiteral step readOn read asOpened tooLong misshapen openProgram openText reply repliesFrom
 dialogues-hold = (refl, (refl, tt))
 
 -- the sample's trace is the one that the customer's specification prints

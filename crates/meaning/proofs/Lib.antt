@@ -13,6 +13,10 @@ pub mod Active
 pub mod Monitor
 -- only which letters are active counts, not how often or in which order
 pub mod Sets
+-- a thread has one active letter at most, so keeping busy threads shut is what F17 asks
+pub mod Occupied
+-- what F17 takes for granted of a start: one letter a tick, to its last, and none behind that
+pub mod Requires
 -- word by word the machine's verdict is that of `Fit`, and its positions, last word and store values are those of the history
 pub mod Watch
 -- literals agree bit by bit exactly where a word meets them all
@@ -27,7 +31,7 @@ pub mod Accept
 pub mod Shaped
 -- monitors that keep rule 10 and have at most 256 letters have fewer than 1,024 rows
 pub mod RowCount
--- what fits, fits up to each of its ticks; `e*` and a monitor are as F9 and F13 say, whatever the bound on rounds
+-- `e*` and a monitor are as F9 and F13 say, whatever the bound on rounds; what fits an accepted monitor fits it up to each of its words
 pub mod Prefix
 -- where the walk over rows stays within its count a greater count changes nothing
 pub mod Ends

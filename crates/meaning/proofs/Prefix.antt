@@ -1,4 +1,4 @@
--- What fits, fits up to each of its ticks: for every monitor, whatever its shape.
+-- A star and a monitor unrolled, whatever their shape: the bound on rounds changes nothing. And what fits, fits up to each of its words.
 use mathlib.Core.List.{List, [], _∷_, _++_, map, append-nil, append-assoc}
 use mathlib.Core.Bool.{Bool, true, not}
 use mathlib.Core.Path.{_≡_, refl, sym, ap, ap₂, _∙_, subst}
@@ -9,10 +9,10 @@ use lib.Dec.{T, ltb, ltb→lt, lt→ltb}
 use lib.ListN.{length}
 use Rattle.meaning.specs.Lists.{_∈_, carry, null, only}
 use Rattle.meaning.specs.Expression.{Exp, letter, seq, alt, star, pipe}
-use Rattle.meaning.specs.Fit.{Tick, meets, Run, Rest, pastTheEnd, anything, nothing, merge, both, rounds, runs, monitor, fits, History, tick, start, onward, history}
+use Rattle.meaning.specs.Fit.{Tick, meets, Run, Rest, pastTheEnd, anything, nothing, merge, both, rounds, runs, branches, fits, History, tick, start, onward, history}
 use Rattle.meaning.proofs.ListLaws.{carry-append, here, append-∈, ∈-left, ∈-right, ∈-map, map-∈, no-∈, ∈-only, only-∈, clash}
 use Rattle.meaning.proofs.Step.{ended, ∈-both, both-∈}
-use Rattle.meaning.proofs.Monitor.{not-null}
+use Rattle.meaning.proofs.Monitor.{Accepted, fits-prefix}
 
 -- ---- there is a run ----
 
@@ -180,61 +180,12 @@ star-exactly e K k t ts = (
 )
 
 -- F13: "as often as m ends it is asked once more"
-pub monitor-exactly : (m : Exp) (t : Tick) (ts : List Tick) → Some (monitor m (t ∷ ts)) ↔ Some (runs m (monitor m) (t ∷ ts))
+pub monitor-exactly : (m : Exp) (t : Tick) (ts : List Tick) → Some (branches m (t ∷ ts)) ↔ Some (runs m (branches m) (t ∷ ts))
 monitor-exactly m t ts =
     let unrolled = star-exactly m nothing refl t ts in
     (λ s. ⊎-elim (λ a. absurd (no-∈ (a .1))) (λ b. b) (unrolled .0 s), λ b. unrolled .1 (inr b))
 
--- ---- fewer ticks ----
-
--- what fits as K on ticks fits as L on the first of them
-abbrev Cut : Rest → Rest → Type 0
-Cut K L = (ts us : List Tick) → Some (K (ts ++ us)) → Some (L ts)
-
-cut-rounds : (e : Exp) → ((K L : Rest) → L [] ≡ pastTheEnd → Cut K L → Cut (runs e K) (runs e L))
-    → (K L : Rest) → L [] ≡ pastTheEnd → Cut K L → (n : ℕ) → Cut (rounds (runs e) K n) (rounds (runs e) L n)
-unfolding rounds
-cut-rounds e ih K L k h zero ts us s = h ts us s
-cut-rounds e ih K L k h (suc n) [] us s = past
-cut-rounds e ih K L k h (suc n) (t ∷ ts) us s = ⊎-elim
-    (λ a. some-left _ (h (t ∷ ts) us a))
-    (λ b. some-right (L (t ∷ ts)) (ih (rounds (runs e) K n) (rounds (runs e) L n) (end n) (cut-rounds e ih K L k h n) (t ∷ ts) us b))
-    (either-some (K (t ∷ ts ++ us)) s)
-  where
-    end : (n : ℕ) → rounds (runs e) L n [] ≡ pastTheEnd
-    end zero = k
-    end (suc n) = refl
-
-cut : (e : Exp) (K L : Rest) → L [] ≡ pastTheEnd → Cut K L → Cut (runs e K) (runs e L)
-unfolding runs merge
-cut (letter l) K L k h [] us s = past
-cut (letter l) K L k h (t ∷ ts) us s = let (b, a) = met-some (meets l t) _ (K (ts ++ us)) s in some-met (meets l t) _ (L ts) b (h ts us a)
-cut (seq e f) K L k h ts us s = cut e (runs f K) (runs f L) (ended f L k) (cut f K L k h) ts us s
-cut (alt e f) K L k h [] us s = past
-cut (alt e f) K L k h (t ∷ ts) us s = ⊎-elim
-    (λ a. some-left _ (cut e K L k h (t ∷ ts) us a)) (λ b. some-right (runs e L (t ∷ ts)) (cut f K L k h (t ∷ ts) us b)) (either-some (runs e K (t ∷ ts ++ us)) s)
-cut (star e) K L k h ts us s = enough e L k (length ts) (length (ts ++ us)) ts (omega arith) (cut-rounds e (cut e) K L k h (length (ts ++ us)) ts us s)
-cut (pipe e f) K L k h ts us s = cut e _ (λ vs. both (L vs) (runs f anything vs)) (ap₂ both k (ended f anything refl))
-    (λ vs ws x.
-    let (a, b) = both-some (K (vs ++ ws)) (runs f anything (vs ++ ws)) x in
-    some-both (h vs ws a) (cut f anything anything refl (λ xs ys z. z) vs ws b))
-    ts us s
-
-cut-nothing : Cut nothing nothing
-cut-nothing [] us s = past
-cut-nothing (t ∷ ts) us s = absurd (no-∈ (s .1))
-
 -- ---- the theorems ----
-
-true-some : (A : List Run) → _≡_ {A = Bool} (not (null A)) true → Some A
-true-some [] p = clash (cc)
-true-some (r ∷ A) p = (r, here refl)
-
--- Words that fit a monitor fit it up to each of them.
-pub fits-prefix : (m : Exp) (ts us : List Tick) → fits m (ts ++ us) ≡ true → fits m ts ≡ true
-fits-prefix m ts us p =
-    let (r, i) = cut (star m) nothing nothing refl cut-nothing ts us (true-some (monitor m (ts ++ us)) p) in
-    ap not (not-null i)
 
 -- one history goes on from the other
 further : (ms : List Exp) (h : History) (ws : List ℕ) → (us : List Tick) × (carry (onward ms) h ws .ticks ≡ h .ticks ++ us)
@@ -244,10 +195,10 @@ further ms h (w ∷ ws) =
     let (us, p) = further ms (onward ms h w) ws in
     (tick h w ∷ us, p ∙ append-assoc (h .ticks) (tick h w ∷ []) us)
 
--- The same for words with the stores that they lead to.
-pub fits-history : (m : Exp) (ms : List Exp) (initial ws vs : List ℕ)
+-- Words that fit a monitor fit it up to each of them (proofs/Monitor has it of ticks), with the stores that they lead to.
+pub fits-history : (m : Exp) → Accepted m → (ms : List Exp) (initial ws vs : List ℕ)
     → fits m (history ms initial (ws ++ vs) .ticks) ≡ true → fits m (history ms initial ws .ticks) ≡ true
-fits-history m ms initial ws vs p =
+fits-history m ac ms initial ws vs p =
     let (us, q) = further ms (history ms initial ws) vs in
-    fits-prefix m (history ms initial ws .ticks) us
+    fits-prefix m ac (history ms initial ws .ticks) us
     (ap (fits m) (sym (ap (λ h. h .ticks) (carry-append (onward ms) (start initial) ws vs) ∙ q)) ∙ p)

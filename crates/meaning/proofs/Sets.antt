@@ -2,15 +2,15 @@
 use mathlib.Core.List.{List, [], _∷_, _++_}
 use mathlib.Core.Bool.{Bool, true, false, cond}
 use mathlib.Core.Option.{Option, none, some, Option·none-ne-some, Option·some-injective}
-use mathlib.Core.Path.{_≡_, refl, sym, ap, ap₂, _∙_, subst}
+use mathlib.Core.Path.{_≡_, refl, sym, ap, ap₂, _∙_, subst, fun-ext}
 use mathlib.Core.Logic.{_⊎_, inl, inr, ⊎-elim}
 use Prim.Native.Nat.{ℕ}
 use lib.Dec.{T, eqb, eqb→eq, eqb-refl}
 use Rattle.meaning.specs.Lists.{only, member, _∈_}
-use Rattle.meaning.specs.Expression.{Letter, Exp, letter, seq, alt, star, pipe, letters}
+use Rattle.meaning.specs.Expression.{Letter, Exp, letter, seq, alt, star, pipe, letters, own}
 use Rattle.meaning.specs.Fit.{Tick, meets}
-use Rattle.meaning.specs.Positions.{Way, stuck, over, joined, Entered, met, passed, blocked, thenEnter, orEnter, orPass, enter, goesBy, ask, has, leave, Positions, at-start, on, goAll, go, kept}
-use Rattle.meaning.proofs.ListLaws.{here, there, cons-∈, no-∈, append-∈, ∈-left, ∈-right, ∈-cast, one-∈, each-∈, ∈-each, ∈-only, only-∈, any-from, any-to}
+use Rattle.meaning.specs.Positions.{Way, stuck, over, joined, Entered, met, passed, blocked, thenEnter, orEnter, orPass, enter, goesBy, ask, has, underWay, busy, begin, leave, Positions, at-start, on, goAll, go, kept}
+use Rattle.meaning.proofs.ListLaws.{here, there, cons-∈, no-∈, append-∈, ∈-left, ∈-right, ∈-cast, one-∈, each-∈, ∈-each, ∈-only, only-∈, any-from, any-to, same-truth}
 use Rattle.meaning.proofs.OneWay.{Has}
 
 -- ---- sets of positions ----
@@ -77,6 +77,12 @@ module _ (W : ℕ → Way) (t : Tick) where
             w k (subst (λ z. k ∈ z) (Option·some-injective cs bs (sym a ∙ b)) l),
       )
 
+-- the same threads are busy
+busy-alike : (ns ms : List ℕ) → Within ns ms × Within ms ns → busy ms ≡ busy ns
+busy-alike ns ms h = fun-ext (λ f. same-truth (busy ms f) (busy ns f)
+    (λ t. let (n, i, u) = any-to (λ n. underWay n f) ms t in any-from (λ n. underWay n f) (h .1 n i) u)
+    (λ t. let (n, i, u) = any-to (λ n. underWay n f) ns t in any-from (λ n. underWay n f) (h .0 n i) u))
+
 -- the same set of positions goes on alike
 pub go-alike : (m : Exp) (x y : Positions) (t : Tick) (os : List ℕ) → Alike x y → go m x t ≡ some os → (qs : List ℕ) × (go m y t ≡ some qs) × Within qs os × Within os qs
 unfolding go
@@ -84,10 +90,14 @@ go-alike m at-start at-start t os h p = (os, p, λ k i. i, λ k i. i)
 go-alike m at-start (on ms) t os h p = absurd h
 go-alike m (on ns) at-start t os h p = absurd h
 go-alike m (on ns) (on ms) t os h p =
-    let W : ℕ → Way = λ n. leave n (star m) stuck in
+    let W : ℕ → Way = λ n. leave (busy ns) n (star m) stuck in
     let (qs, q, w) = fewer-go W t ns ms os (h .1) p in
-    let (rs, r, v) = fewer-go W t ms ns qs (h .0) q in
-    (qs, q, w, λ k i. v k (subst (λ z. k ∈ z) (Option·some-injective os rs (sym p ∙ r)) i))
+    let (rs, r, v) = fewer-go W t ms ns qs (h .0) q in (
+      qs,
+      ap (λ B. goAll (λ n. leave B n (star m) stuck) ms t) (busy-alike ns ms h) ∙ q,
+      w,
+      λ k i. v k (subst (λ z. k ∈ z) (Option·some-injective os rs (sym p ∙ r)) i),
+    )
 
 pub alike-back : (x y : Positions) → Alike x y → Alike y x
 alike-back at-start at-start h = tt
@@ -119,72 +129,81 @@ inside-cond m false o q c d = d
 abbrev Part : Exp → Exp → Type 0
 Part m e = (l : Letter) → l ∈ letters e → Has (l .number) m
 
--- a letter that entering met is the monitor's
-abbrev MetIn : Exp → Entered → Type 0
-MetIn m (met n) = Has n m
-MetIn m passed = Unit {0}
-MetIn m blocked = Unit {0}
+-- what Q says of each of a part's own letters it says of one that entering met
+abbrev pub MetIn : (Q : ℕ → Type 0) → Entered → Type 0
+MetIn Q (met n) = Q n
+MetIn Q passed = Unit {0}
+MetIn Q blocked = Unit {0}
 
-met-letter : (m : Exp) (n : ℕ) (b : Bool) → Has n m → MetIn m (cond b (met n) blocked)
-met-letter m n true h = h
-met-letter m n false h = tt
+module _ (Q : ℕ → Type 0) where
+  met-letter : (n : ℕ) (b : Bool) → Q n → MetIn Q (cond b (met n) blocked)
+  met-letter n true h = h
+  met-letter n false h = tt
 
-met-then : (m : Exp) (a b : Entered) → MetIn m a → MetIn m b → MetIn m (thenEnter a b)
-met-then m (met n) b p q = p
-met-then m passed b p q = q
-met-then m blocked b p q = tt
+  met-then : (a b : Entered) → MetIn Q a → MetIn Q b → MetIn Q (thenEnter a b)
+  met-then (met n) b p q = p
+  met-then passed b p q = q
+  met-then blocked b p q = tt
 
-met-or : (m : Exp) (a b : Entered) → MetIn m a → MetIn m b → MetIn m (orEnter a b)
-met-or m (met n) b p q = p
-met-or m passed (met n) p q = q
-met-or m passed passed p q = tt
-met-or m passed blocked p q = tt
-met-or m blocked b p q = q
+  met-or : (a b : Entered) → MetIn Q a → MetIn Q b → MetIn Q (orEnter a b)
+  met-or (met n) b p q = p
+  met-or passed (met n) p q = q
+  met-or passed passed p q = tt
+  met-or passed blocked p q = tt
+  met-or blocked b p q = q
 
-met-star : (m : Exp) (a : Entered) → MetIn m a → MetIn m (orPass a)
-met-star m (met n) p = p
-met-star m passed p = tt
-met-star m blocked p = tt
+  met-star : (a : Entered) → MetIn Q a → MetIn Q (orPass a)
+  met-star (met n) p = p
+  met-star passed p = tt
+  met-star blocked p = tt
 
-enter-inside : (m e : Exp) (t : Tick) → Part m e → MetIn m (enter e t)
-unfolding enter letters
-enter-inside m (letter l) t h = met-letter m (l .number) (meets l t) (h l (here refl))
-enter-inside m (seq e f) t h = met-then m (enter e t) (enter f t) (enter-inside m e t (λ l i. h l (∈-left (letters f) i))) (enter-inside m f t (λ l i. h l (∈-right (letters e) i)))
-enter-inside m (alt e f) t h = met-or m (enter e t) (enter f t) (enter-inside m e t (λ l i. h l (∈-left (letters f) i))) (enter-inside m f t (λ l i. h l (∈-right (letters e) i)))
-enter-inside m (star e) t h = met-star m (enter e t) (enter-inside m e t h)
-enter-inside m (pipe e f) t h = enter-inside m e t (λ l i. h l (∈-left (letters f) i))
+  pub enter-own : (e : Exp) (t : Tick) → ((l : Letter) → l ∈ own e → Q (l .number)) → MetIn Q (enter e t)
+  unfolding enter own
+  enter-own (letter l) t h = met-letter (l .number) (meets l t) (h l (here refl))
+  enter-own (seq e f) t h = met-then (enter e t) (enter f t) (enter-own e t (λ l i. h l (∈-left (own f) i))) (enter-own f t (λ l i. h l (∈-right (own e) i)))
+  enter-own (alt e f) t h = met-or (enter e t) (enter f t) (enter-own e t (λ l i. h l (∈-left (own f) i))) (enter-own f t (λ l i. h l (∈-right (own e) i)))
+  enter-own (star e) t h = met-star (enter e t) (enter-own e t h)
+  enter-own (pipe e f) t h = enter-own e t h
 
-goes-inside : (m : Exp) (a : Entered) (o : Option (List ℕ)) → MetIn m a → Inside m o → Inside m (goesBy a o)
+pub own-letters : (e : Exp) (x : Letter) → x ∈ own e → x ∈ letters e
+unfolding own letters
+own-letters (letter l) x i = i
+own-letters (seq e f) x i = ⊎-elim (λ j. ∈-left (letters f) (own-letters e x j)) (λ j. ∈-right (letters e) (own-letters f x j)) (append-∈ (own e) i)
+own-letters (alt e f) x i = ⊎-elim (λ j. ∈-left (letters f) (own-letters e x j)) (λ j. ∈-right (letters e) (own-letters f x j)) (append-∈ (own e) i)
+own-letters (star e) x i = own-letters e x i
+own-letters (pipe e f) x i = ∈-left (letters f) (own-letters e x i)
+
+goes-inside : (m : Exp) (a : Entered) (o : Option (List ℕ)) → MetIn (λ n. Has n m) a → Inside m o → Inside m (goesBy a o)
 goes-inside m (met n) o h g = λ ns p k i. subst (λ z. Has z m) (sym (one-∈ (subst (λ z. k ∈ z) (sym (Option·some-injective (n ∷ []) ns p)) i))) h
 goes-inside m passed o h g = g
 goes-inside m blocked o h g = inside-none m
 
 ask-inside : (m e : Exp) (K : Way) (t : Tick) → Part m e → Inside m (K t) → Inside m (ask e K t)
-ask-inside m e K t h k = goes-inside m (enter e t) (K t) (enter-inside m e t h) k
+ask-inside m e K t h k = goes-inside m (enter e t) (K t) (enter-own (λ n. Has n m) e t (λ l i. h l (own-letters e l i))) k
 
-leave-inside : (n : ℕ) (m e : Exp) (K : Way) (t : Tick) → Part m e → Inside m (K t) → Inside m (leave n e K t)
+leave-inside : (B : Exp → Bool) (n : ℕ) (m e : Exp) (K : Way) (t : Tick) → Part m e → Inside m (K t) → Inside m (leave B n e K t)
 unfolding leave letters
-leave-inside n m (letter l) K t h k = k
-leave-inside n m (seq e f) K t h k = inside-cond m (has n e) _ _
-    (leave-inside n m e (ask f K) t (λ l i. h l (∈-left (letters f) i)) (ask-inside m f K t (λ l i. h l (∈-right (letters e) i)) k))
-    (leave-inside n m f K t (λ l i. h l (∈-right (letters e) i)) k)
-leave-inside n m (alt e f) K t h k = inside-cond m (has n e) _ _
-    (leave-inside n m e K t (λ l i. h l (∈-left (letters f) i)) k) (leave-inside n m f K t (λ l i. h l (∈-right (letters e) i)) k)
-leave-inside n m (star e) K t h k = leave-inside n m e (ask (star e) K) t h (ask-inside m (star e) K t h k)
-leave-inside n m (pipe e f) K t h k = inside-cond m (has n e) _ _
-    (leave-inside n m e (λ u. joined (K u) (ask f over u)) t (λ l i. h l (∈-left (letters f) i))
-    (inside-joined m (K t) (ask f over t) k (ask-inside m f over t (λ l i. h l (∈-right (letters e) i)) (inside-over m))))
-    (leave-inside n m f over t (λ l i. h l (∈-right (letters e) i)) (inside-over m))
+leave-inside B n m (letter l) K t h k = k
+leave-inside B n m (seq e f) K t h k = inside-cond m (has n e) _ _
+    (leave-inside B n m e (ask f K) t (λ l i. h l (∈-left (letters f) i)) (ask-inside m f K t (λ l i. h l (∈-right (letters e) i)) k))
+    (leave-inside B n m f K t (λ l i. h l (∈-right (letters e) i)) k)
+leave-inside B n m (alt e f) K t h k = inside-cond m (has n e) _ _
+    (leave-inside B n m e K t (λ l i. h l (∈-left (letters f) i)) k) (leave-inside B n m f K t (λ l i. h l (∈-right (letters e) i)) k)
+leave-inside B n m (star e) K t h k = leave-inside B n m e (ask (star e) K) t h (ask-inside m (star e) K t h k)
+leave-inside B n m (pipe e f) K t h k = inside-cond m (has n e) _ _
+    (leave-inside B n m e (λ u. joined (K u) (begin B f u)) t (λ l i. h l (∈-left (letters f) i))
+    (inside-joined m (K t) (begin B f t) k (inside-cond m (B f) none (ask f over t) (inside-none m) (ask-inside m f over t (λ l i. h l (∈-right (letters e) i)) (inside-over m)))))
+    (leave-inside B n m f over t (λ l i. h l (∈-right (letters e) i)) (inside-over m))
 
 pub go-inside : (m : Exp) (x : Positions) (t : Tick) → Inside m (go m x t)
 unfolding go letters
 go-inside m at-start t = ask-inside m (star m) stuck t (λ l i. (l, i, refl)) (inside-none m)
-go-inside m (on ns) t = each-inside ns
+go-inside m (on ms) t = each-inside ms
   where
-    each-inside : (ns : List ℕ) → Inside m (goAll (λ n. leave n (star m) stuck) ns t)
+    each-inside : (ns : List ℕ) → Inside m (goAll (λ n. leave (busy ms) n (star m) stuck) ns t)
     each-inside ns os p k i =
-        let (n, qs, j, q, l) = some-goes (λ n. leave n (star m) stuck) t ns os k p i in
-        leave-inside n m (star m) stuck t (λ l i. (l, i, refl)) (inside-none m) qs q k l
+        let (n, qs, j, q, l) = some-goes (λ n. leave (busy ms) n (star m) stuck) t ns os k p i in
+        leave-inside (busy ms) n m (star m) stuck t (λ l i. (l, i, refl)) (inside-none m) qs q k l
 
 pub kept-in : (m : Exp) (ns : List ℕ) (k : ℕ) → k ∈ kept m ns → k ∈ ns
 unfolding kept

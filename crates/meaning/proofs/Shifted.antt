@@ -1,17 +1,20 @@
 -- Letters numbered from k on instead of 0: the machine does the same, each number k greater. Assumes nothing.
 use mathlib.Core.Path.{_≡_, refl, sym, ap, ap₂, _∙_, subst}
-use mathlib.Core.Bool.{Bool, true, false, cond, not, _||_}
+use mathlib.Core.Bool.{Bool, true, false, cond, not, _&&_, _||_}
 use mathlib.Core.List.{List, [], _∷_, _++_, map, map-append}
 use mathlib.Core.Option.{Option, none, some}
 use Prim.Native.Nat.{ℕ, _+_}
 use native.Mathlib.Omega.{arith}
 use lib.Dec.{T, eqb}
 use borrow.Author.Tests.{eqb-true, eqb-false, eq-eqb, ne-eqb}
-use Rattle.meaning.specs.Lists.{any, carry, each, only, member}
-use Rattle.meaning.specs.Expression.{Letter, Exp, letter, seq, alt, star, pipe, letters, size, renumbered, Ordered}
-use Rattle.meaning.specs.Fit.{Tick, meets, write, writeMet}
-use Rattle.meaning.specs.Positions.{Way, stuck, over, joined, Entered, met, passed, blocked, thenEnter, orEnter, orPass, enter, goesBy, ask, has, leave, Positions, at-start, on, goAll, go, kept}
+use Rattle.meaning.specs.Lists.{_∈_, carry, each, only, member}
+use Rattle.meaning.specs.Expression.{Letter, Exp, letter, seq, alt, star, pipe, letters, own, size, renumbered, Ordered}
+use Rattle.meaning.specs.Shape.{nullable, first, last, follow}
+use Rattle.meaning.specs.Fit.{Tick, meets, among, write, writeMet}
+use Rattle.meaning.specs.Positions.{Way, stuck, over, joined, Entered, met, passed, blocked, thenEnter, orEnter, orPass, enter, goesBy, ask, has, busy, begin, leave, Positions, at-start, on, goAll, go, kept}
+use Rattle.meaning.proofs.ListLaws.{map-∈}
 use Rattle.meaning.proofs.Step.{Solid}
+use Rattle.meaning.proofs.OneWay.{Closed, last-has}
 use Rattle.meaning.proofs.Summary.{nullable-renumbered}
 
 module _ (k : ℕ) where
@@ -73,12 +76,88 @@ module _ (k : ℕ) where
   member-shifted n [] = refl
   member-shifted n (m ∷ ns) = ap₂ _||_ (eqb-shifted n m) (member-shifted n ns)
 
+  among-shifted : (n : ℕ) (ls : List Letter) → among (map shiftLetter ls) (k + n) ≡ among ls n
+  among-shifted n [] = refl
+  among-shifted n (l ∷ ls) = ap₂ _||_ (eqb-shifted n (l .number)) (among-shifted n ls)
+
   has-shifted : (n : ℕ) (e : Exp) → has (k + n) (shifted e) ≡ has n e
-  has-shifted n e = ap (any (λ l. eqb (k + n) (l .number))) (letters-shifted e) ∙ over-all (letters e)
-    where
-      over-all : (ls : List Letter) → any (λ l. eqb (k + n) (l .number)) (map shiftLetter ls) ≡ any (λ l. eqb n (l .number)) ls
-      over-all [] = refl
-      over-all (l ∷ ls) = ap₂ _||_ (eqb-shifted n (l .number)) (over-all ls)
+  has-shifted n e = ap (λ ls. among ls (k + n)) (letters-shifted e) ∙ among-shifted n (letters e)
+
+  -- ---- threads ----
+
+  pub own-shifted : (e : Exp) → own (shifted e) ≡ map shiftLetter (own e)
+  unfolding own shifted
+  own-shifted (letter l) = refl
+  own-shifted (seq e f) = ap₂ _++_ (own-shifted e) (own-shifted f) ∙ sym (map-append shiftLetter (own e) (own f))
+  own-shifted (alt e f) = ap₂ _++_ (own-shifted e) (own-shifted f) ∙ sym (map-append shiftLetter (own e) (own f))
+  own-shifted (star e) = own-shifted e
+  own-shifted (pipe e f) = own-shifted e
+
+  nullable-shifted : (e : Exp) → nullable (shifted e) ≡ nullable e
+  unfolding nullable shifted
+  nullable-shifted (letter l) = refl
+  nullable-shifted (seq e f) = ap₂ _&&_ (nullable-shifted e) (nullable-shifted f)
+  nullable-shifted (alt e f) = ap₂ _||_ (nullable-shifted e) (nullable-shifted f)
+  nullable-shifted (star e) = refl
+  nullable-shifted (pipe e f) = refl
+
+  last-shifted : (n : ℕ) (e : Exp) → last (k + n) (shifted e) ≡ last n e
+  unfolding last shifted
+  last-shifted n (letter l) = eqb-shifted n (l .number)
+  last-shifted n (seq e f) = ap₂ _||_ (last-shifted n f) (ap₂ _&&_ (nullable-shifted f) (last-shifted n e))
+  last-shifted n (alt e f) = ap₂ _||_ (last-shifted n e) (last-shifted n f)
+  last-shifted n (star e) = last-shifted n e
+  last-shifted n (pipe e f) = last-shifted n e
+
+  only-shifted : (b : Bool) (ls : List Letter) → only b (map shiftLetter ls) ≡ map shiftLetter (only b ls)
+  only-shifted true ls = refl
+  only-shifted false ls = refl
+
+  first-shifted : (e : Exp) → first (shifted e) ≡ map shiftLetter (first e)
+  unfolding first shifted
+  first-shifted (letter l) = refl
+  first-shifted (seq e f) =
+      ap₂ _++_ (first-shifted e) (ap₂ only (nullable-shifted e) (first-shifted f) ∙ only-shifted (nullable e) (first f)) ∙ sym (map-append shiftLetter (first e) (only (nullable e) (first f)))
+  first-shifted (alt e f) = ap₂ _++_ (first-shifted e) (first-shifted f) ∙ sym (map-append shiftLetter (first e) (first f))
+  first-shifted (star e) = first-shifted e
+  first-shifted (pipe e f) = first-shifted e
+
+  -- what can follow a last letter of e
+  behind-last : (n : ℕ) (e f : Exp) → only (last (k + n) (shifted e)) (first (shifted f)) ≡ map shiftLetter (only (last n e) (first f))
+  behind-last n e f = ap₂ only (last-shifted n e) (first-shifted f) ∙ only-shifted (last n e) (first f)
+
+  follow-shifted : (n : ℕ) (e : Exp) → follow (k + n) (shifted e) ≡ map shiftLetter (follow n e)
+  unfolding follow shifted
+  follow-shifted n (letter l) = refl
+  follow-shifted n (seq e f) =
+      ap₂ _++_ (ap₂ _++_ (follow-shifted n e) (follow-shifted n f) ∙ sym (map-append shiftLetter (follow n e) (follow n f))) (behind-last n e f)
+      ∙ sym (map-append shiftLetter (follow n e ++ follow n f) (only (last n e) (first f)))
+  follow-shifted n (alt e f) = ap₂ _++_ (follow-shifted n e) (follow-shifted n f) ∙ sym (map-append shiftLetter (follow n e) (follow n f))
+  follow-shifted n (star e) = ap₂ _++_ (follow-shifted n e) (behind-last n e e) ∙ sym (map-append shiftLetter (follow n e) (only (last n e) (first e)))
+  follow-shifted n (pipe e f) = ap₂ _++_ (follow-shifted n e) (follow-shifted n f) ∙ sym (map-append shiftLetter (follow n e) (follow n f))
+
+  -- rule 11 asks for no numbers
+  closed-shifted : (e : Exp) → Closed e → Closed (shifted e)
+  unfolding shifted
+  closed-shifted (letter l) c = tt
+  closed-shifted (seq e f) c = (closed-shifted e (c .0), closed-shifted f (c .1))
+  closed-shifted (alt e f) c = (closed-shifted e (c .0), closed-shifted f (c .1))
+  closed-shifted (star e) c = closed-shifted e c
+  closed-shifted (pipe e f) c = (
+    λ n x t i.
+        let (l, j, p) = last-has n (shifted f) t in
+        let (y, m, q) = map-∈ shiftLetter (letters f) (subst (λ ls. l ∈ ls) (letters-shifted f) j) in
+        let d : n ≡ k + y .number = sym p ∙ ap (λ z. z .number) (sym q) in
+        let (w, u, v) = map-∈ shiftLetter (follow (y .number) f) (subst (λ ls. x ∈ ls) (ap (λ z. follow z (shifted f)) d ∙ follow-shifted (y .number) f) i) in
+        c .0 (y .number) w (subst T (ap (λ z. last z (shifted f)) d ∙ last-shifted (y .number) f) t) u,
+    closed-shifted e (c .1),
+    closed-shifted f (c .2),
+  )
+
+  pub busy-shifted : (ns : List ℕ) (f : Exp) → busy (shiftAll ns) (shifted f) ≡ busy ns f
+  busy-shifted [] f = refl
+  busy-shifted (n ∷ ns) f =
+      ap₂ _||_ (ap₂ (λ a b. a && not b) (ap (λ ls. among ls (k + n)) (own-shifted f) ∙ among-shifted n (own f)) (last-shifted n f)) (busy-shifted ns f)
 
   -- ---- entering ----
 
@@ -137,16 +216,22 @@ module _ (k : ℕ) where
   pub ask-shifted : (e : Exp) (L K : Way) → Like L K → Like (ask (shifted e) L) (ask e K)
   ask-shifted e L K h t = ap₂ goesBy (enter-shifted e t) (h t) ∙ shift-goes (enter e t) (K t)
 
-  pub leave-shifted : (n : ℕ) (e : Exp) (L K : Way) → Like L K → Like (leave (k + n) (shifted e) L) (leave n e K)
+  shift-begin : (a b : Bool) (o p : Option (List ℕ)) → b ≡ a → p ≡ shift o → cond b none p ≡ shift (cond a none o)
+  shift-begin true b o p q u = rw q
+  shift-begin false b o p q u = rw q u
+
+  -- C shuts what B does
+  pub leave-shifted : (C B : Exp → Bool) → ((f : Exp) → C (shifted f) ≡ B f)
+      → (n : ℕ) (e : Exp) (L K : Way) → Like L K → Like (leave C (k + n) (shifted e) L) (leave B n e K)
   unfolding leave shifted
-  leave-shifted n (letter l) L K h t = h t
-  leave-shifted n (seq e f) L K h t = shift-cond (has n e) (has (k + n) (shifted e)) _ _ _ _ (has-shifted n e)
-      (leave-shifted n e (ask (shifted f) L) (ask f K) (ask-shifted f L K h) t) (leave-shifted n f L K h t)
-  leave-shifted n (alt e f) L K h t = shift-cond (has n e) (has (k + n) (shifted e)) _ _ _ _ (has-shifted n e) (leave-shifted n e L K h t) (leave-shifted n f L K h t)
-  leave-shifted n (star e) L K h t = leave-shifted n e (ask (star (shifted e)) L) (ask (star e) K) (ask-shifted (star e) L K h) t
-  leave-shifted n (pipe e f) L K h t = shift-cond (has n e) (has (k + n) (shifted e)) _ _ _ _ (has-shifted n e)
-      (leave-shifted n e _ _ (joined-like L K (ask (shifted f) over) (ask f over) h (ask-shifted f over over (λ u. refl))) t)
-      (leave-shifted n f over over (λ u. refl) t)
+  leave-shifted C B q n (letter l) L K h t = h t
+  leave-shifted C B q n (seq e f) L K h t = shift-cond (has n e) (has (k + n) (shifted e)) _ _ _ _ (has-shifted n e)
+      (leave-shifted C B q n e (ask (shifted f) L) (ask f K) (ask-shifted f L K h) t) (leave-shifted C B q n f L K h t)
+  leave-shifted C B q n (alt e f) L K h t = shift-cond (has n e) (has (k + n) (shifted e)) _ _ _ _ (has-shifted n e) (leave-shifted C B q n e L K h t) (leave-shifted C B q n f L K h t)
+  leave-shifted C B q n (star e) L K h t = leave-shifted C B q n e (ask (star (shifted e)) L) (ask (star e) K) (ask-shifted (star e) L K h) t
+  leave-shifted C B q n (pipe e f) L K h t = shift-cond (has n e) (has (k + n) (shifted e)) _ _ _ _ (has-shifted n e)
+      (leave-shifted C B q n e _ _ (joined-like L K (begin C (shifted f)) (begin B f) h (λ u. shift-begin (B f) (C (shifted f)) _ _ (q f) (ask-shifted f over over (λ v. refl) u))) t)
+      (leave-shifted C B q n f over over (λ u. refl) t)
 
   pub goAll-shifted : (X W : ℕ → Way) → ((n : ℕ) → Like (X (k + n)) (W n)) → (ns : List ℕ) (t : Tick) → goAll X (shiftAll ns) t ≡ shift (goAll W ns t)
   unfolding goAll
@@ -156,7 +241,7 @@ module _ (k : ℕ) where
   go-shifted : (m : Exp) (x : Positions) (t : Tick) → go (shifted m) (shiftPositions x) t ≡ shift (go m x t)
   unfolding go shifted
   go-shifted m at-start t = ask-shifted (star m) stuck stuck (λ u. refl) t
-  go-shifted m (on ns) t = goAll-shifted _ _ (λ n. leave-shifted n (star m) stuck stuck (λ u. refl)) ns t
+  go-shifted m (on ns) t = goAll-shifted _ _ (λ n. leave-shifted (busy (shiftAll ns)) (busy ns) (busy-shifted ns) n (star m) stuck stuck (λ u. refl)) ns t
 
   -- ---- letters met ----
 
@@ -198,9 +283,6 @@ module _ (k j : ℕ) (e : Exp) (ordered : Ordered j e) where
   pub ask-renumbered : (L K : Way) → Like k L K → Like k (ask (renumbered (k + j) e) L) (ask e K)
   ask-renumbered L K h t = rw same-part (ask-shifted k e L K h t)
 
-  pub leave-renumbered : (n : ℕ) (L K : Way) → Like k L K → Like k (leave (k + n) (renumbered (k + j) e) L) (leave n e K)
-  leave-renumbered n L K h t = rw same-part (leave-shifted k n e L K h t)
-
 -- ---- a monitor, numbered from k on ----
 
 module _ (k : ℕ) (m : Exp) (ordered : Ordered 0 m) where
@@ -209,6 +291,9 @@ module _ (k : ℕ) (m : Exp) (ordered : Ordered 0 m) where
 
   pub go-renumbered : (x : Positions) (t : Tick) → go (renumbered k m) (shiftPositions k x) t ≡ shift k (go m x t)
   go-renumbered x t = rw same-monitor (go-shifted k m x t)
+
+  pub closed-renumbered : Closed m → Closed (renumbered k m)
+  closed-renumbered c = rw same-monitor (closed-shifted k m c)
 
   pub kept-renumbered : (ns : List ℕ) → kept (renumbered k m) (shiftAll k ns) ≡ shiftAll k (kept m ns)
   kept-renumbered ns = rw same-monitor (kept-shifted k m ns)

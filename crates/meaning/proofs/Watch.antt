@@ -10,8 +10,9 @@ use Rattle.meaning.specs.Fit.{History, start, tick, ok, bad, onward, his
 use Rattle.meaning.specs.Positions.{Watch, seen, ticked, answer, told, moved, movedBy, opened, Positions, at-start, on, go, Ticked, fine, wrong, goOn, goEach, writeEach, keptEach}
 use Rattle.meaning.proofs.ListLaws.{carry-append, clash}
 use Rattle.meaning.proofs.Active.{then, positionsAfter}
-use Rattle.meaning.proofs.Monitor.{Accepted, same-member, positions-snoc, fits-yes, fits-no, positions-met}
+use Rattle.meaning.proofs.Monitor.{Accepted, goCounted, same-member, positions-snoc, fits-yes, fits-no, positions-met}
 use Rattle.meaning.proofs.Sets.{Alike, go-alike, alike-back, go-inside, kept-in, in-kept}
+use Rattle.meaning.proofs.Occupied.{goes-counted, steady-after}
 
 -- ---- all monitors ----
 
@@ -20,7 +21,7 @@ abbrev pub Tracked : List Exp → List Tick → List Positions → Type 0
 Tracked [] ts [] = Unit {0}
 Tracked [] ts (x ∷ xs) = ⊥
 Tracked (m ∷ ms) ts [] = ⊥
-Tracked (m ∷ ms) ts (x ∷ xs) = ((y : Positions) × (positionsAfter (go m) at-start ts ≡ some y) × Alike x y) × Tracked ms ts xs
+Tracked (m ∷ ms) ts (x ∷ xs) = ((y : Positions) × (positionsAfter (goCounted m) at-start ts ≡ some y) × Alike x y) × Tracked ms ts xs
 
 abbrev pub AllAccepted : List Exp → Type 0
 AllAccepted [] = Unit {0}
@@ -37,12 +38,16 @@ unfolding writeMet
 write-same t m ns ms h σ =
     ap (λ f. carry f σ (letters m)) (fun-ext (λ s. fun-ext (λ l. ap (λ b. cond b (carry (write t) s (l .writes)) s) (h (l .number)))))
 
-one-right : (i : ℕ) (m : Exp) (ms : List Exp) (ts : List Tick) (t : Tick) (x y : Positions) → Accepted m → positionsAfter (go m) at-start ts ≡ some y → Alike x y
+-- where the counting machine stands, the two go on alike
+counted : (m : Exp) → Accepted m → (ts : List Tick) (y : Positions) → positionsAfter (goCounted m) at-start ts ≡ some y → (t : Tick) → go m y t ≡ goCounted m y t
+counted m ac ts y p t = goes-counted m ac y (steady-after m ac ts at-start y tt p) t
+
+one-right : (i : ℕ) (m : Exp) (ms : List Exp) (ts : List Tick) (t : Tick) (x y : Positions) → Accepted m → positionsAfter (goCounted m) at-start ts ≡ some y → Alike x y
     → (o : Option (List ℕ)) → go m x t ≡ o → (k : Ticked) → Right (suc i) ms ts t k → Right i (m ∷ ms) ts t (goOn i o k)
 unfolding verdict writeEach keptEach
 one-right i m ms ts t x y ac p a none e k h =
     ap (λ b. cond b (verdict (suc i) ms (ts ++ t ∷ [])) (bad i))
-    (fits-no m ac (ts ++ t ∷ []) (positions-snoc (go m) ts t at-start y p ∙ ap (λ o. then o (λ ns. some (on ns))) (also-none (go m y t) refl)))
+    (fits-no m ac (ts ++ t ∷ []) (positions-snoc (goCounted m) ts t at-start y p ∙ ap (λ o. then o (λ ns. some (on ns))) (sym (counted m ac ts y p t) ∙ also-none (go m y t) refl)))
   where
     also-none : (q : Option (List ℕ)) → go m y t ≡ q → go m y t ≡ none
     also-none none f = f
@@ -50,11 +55,11 @@ one-right i m ms ts t x y ac p a none e k h =
 one-right i m ms ts t x y ac p a (some ns) e (wrong j) h =
     let (qs, f, w, v) = go-alike m x y t ns a e in
     ap (λ b. cond b (verdict (suc i) ms (ts ++ t ∷ [])) (bad i))
-    (fits-yes m ac (ts ++ t ∷ []) (on qs) (positions-snoc (go m) ts t at-start y p ∙ ap (λ o. then o (λ ns. some (on ns))) f))
+    (fits-yes m ac (ts ++ t ∷ []) (on qs) (positions-snoc (goCounted m) ts t at-start y p ∙ ap (λ o. then o (λ ns. some (on ns))) (sym (counted m ac ts y p t) ∙ f)))
     ∙ h
 one-right i m ms ts t x y ac p a (some ns) e (fine nss) h =
     let (qs, f, w, v) = go-alike m x y t ns a e in
-    let q : positionsAfter (go m) at-start (ts ++ t ∷ []) ≡ some (on qs) = positions-snoc (go m) ts t at-start y p ∙ ap (λ o. then o (λ ns. some (on ns))) f in (
+    let q : positionsAfter (goCounted m) at-start (ts ++ t ∷ []) ≡ some (on qs) = positions-snoc (goCounted m) ts t at-start y p ∙ ap (λ o. then o (λ ns. some (on ns))) (sym (counted m ac ts y p t) ∙ f) in (
       ap (λ b. cond b (verdict (suc i) ms (ts ++ t ∷ [])) (bad i)) (fits-yes m ac (ts ++ t ∷ []) (on qs) q) ∙ h .0,
       ((on qs, q, (λ k j. v k (kept-in m ns k j), λ k j. in-kept m ns k (go-inside m x t ns e k (w k j)) (w k j))), h .1),
       λ σ. h .2 (writeMet t m ns σ)

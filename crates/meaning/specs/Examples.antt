@@ -24,7 +24,7 @@ abbrev held : String → List ℕ → String → Example
 held e ws s =
     record { text = bytes "input V; input D[7:0]; internal h[7:0] = 0; p -> " ++ bytes e ++ bytes "; monitor p;"; words = ws; sheet = bytes s }
 
--- S11, S13, S12 and S10, each broken; S3: both counts; F10, F17 and F20: threads that run side by side, and a test of what was written a tick before
+-- S11, S13, S12 and S10, each broken; S3: both counts; F10, F17 and F20: two starts of a thread that both require a letter, and a test of what was written a tick before
 abbrev pub proving : List Example
 proving =
     abc "(a*)*" [] "refused 10 0 0\n"
@@ -35,7 +35,7 @@ proving =
     ∷ abc "a @ (b, c*)" [] "refused 11 0 1\n"
     ∷ abc "a & !a" [] "refused 9 0 0\n"
     ∷ abc "a @ (b, c)" (1 ∷ 3 ∷ 7 ∷ [])
-    "rows 5 letters 3\n0 0000000000000001 ok\n1 0000000000000003 ok\n2 0000000000000007 ok\nclean 3\n"
+    "rows 5 letters 3\n0 0000000000000001 ok\n1 0000000000000003 ok\n2 0000000000000007 bad 0\n"
     ∷ abc "a @ (b, c)" (1 ∷ 3 ∷ 3 ∷ [])
     "rows 5 letters 3\n0 0000000000000001 ok\n1 0000000000000003 ok\n2 0000000000000003 bad 0\n"
     ∷ held "V {h <- D;}, V & D == h" (11 ∷ 11 ∷ [])
@@ -60,7 +60,7 @@ misreadings =
     "rows 8 letters 4\n0 0000000000000001 ok\n1 0000000000000002 ok\n2 0000000000000002 ok\n3 0000000000000004 ok\nclean 4\n"
     -- a test that sees a write of its own tick: D would equal h, and tick 0 would be ok
     ∷ held "V & D == h {h <- D;}" (11 ∷ []) "rows 1 letters 1\n0 000000000000000b bad 0\n"
-    -- the older of two runs of a thread dropped: nobody would ask for the first run's `c`, and tick 2 would be ok
+    -- the older of two starts of a thread dropped: nobody would ask for its `c`, and tick 2 would be ok with this word
     ∷ abc "a @ (b, c)" (1 ∷ 3 ∷ 3 ∷ [])
     "rows 5 letters 3\n0 0000000000000001 ok\n1 0000000000000003 ok\n2 0000000000000003 bad 0\n"
     -- `a, a` called a fork: the text would be refused with 12
@@ -77,8 +77,36 @@ pasts =
     ∷ abc "a == past(b)" [] "refused 3 42\n"
     ∷ []
 
+-- with a production that another is made of twice
+abbrev twice : String → String → List ℕ → String → Example
+twice t e ws s = record { text = bytes "input a; input b; input c; t -> " ++ bytes t ++ bytes "; p -> " ++ bytes e ++ bytes "; monitor p;"; words = ws; sheet = bytes s }
+
+-- F17: starts of a thread that overlap, each with a reading by which it would end otherwise
+abbrev pub overlaps : List Example
+overlaps =
+    -- two starts at one letter counted as one: tick 2 would be ok
+    abc "a @ (b & !c*, c) || !a" (1 ∷ 3 ∷ 2 ∷ [])
+    "rows 8 letters 4\n0 0000000000000001 ok\n1 0000000000000003 ok\n2 0000000000000002 bad 0\n"
+    -- a start counted on the tick after its last letter: tick 2 would be bad
+    ∷ abc "a @ b" (1 ∷ 3 ∷ 3 ∷ [])
+    "rows 3 letters 2\n0 0000000000000001 ok\n1 0000000000000003 ok\n2 0000000000000003 ok\nclean 3\n"
+    -- the inner thread's letters counted for the outer one: tick 2 would be bad, where one start of the outer thread requires `b` and the inner one, begun by the other, `c`;
+    -- an inner thread of its own for each start of the outer one: tick 3 would be ok
+    ∷ abc "a @ (b @ (c, c)) || !a" (1 ∷ 3 ∷ 6 ∷ 4 ∷ [])
+    "rows 9 letters 5\n0 0000000000000001 ok\n1 0000000000000003 ok\n2 0000000000000006 ok\n3 0000000000000004 bad 0\n"
+    -- two copies of a production taken for one thread: tick 2 would be bad
+    ∷ twice "a @ (b, c)" "t, t || !a" (1 ∷ 3 ∷ 6 ∷ [])
+    "rows 13 letters 7\n0 0000000000000001 ok\n1 0000000000000003 ok\n2 0000000000000006 ok\nclean 3\n"
+    -- a thread of its own for each round of a star: tick 2 would be ok
+    ∷ abc "(a @ (b, c))*, !a" (1 ∷ 3 ∷ 6 ∷ [])
+    "rows 8 letters 4\n0 0000000000000001 ok\n1 0000000000000003 ok\n2 0000000000000006 bad 0\n"
+    -- a branch that goes another way at tick 3 dropped with the one that starts the thread there: tick 3 would be bad
+    ∷ abc "(a, b*) @ (c, c, c), !b" (1 ∷ 4 ∷ 5 ∷ 6 ∷ [])
+    "rows 12 letters 6\n0 0000000000000001 ok\n1 0000000000000004 ok\n2 0000000000000005 ok\n3 0000000000000006 ok\nclean 4\n"
+    ∷ []
+
 abbrev pub examples : List Example
-examples = proving ++ (sample ∷ misreadings ++ pasts)
+examples = proving ++ (sample ∷ misreadings ++ pasts ++ overlaps)
 
 -- ---- looks and takes
 

@@ -60,6 +60,14 @@ letters (alt e f) = letters e ++ letters f
 letters (star e) = letters e
 letters (pipe e f) = letters e ++ letters f
 
+-- F17: "A letter is required by the innermost thread that it stands in": the letters of e that stand in no thread inside e
+unfoldable pub own : Exp → List Letter
+own (letter l) = l ∷ []
+own (seq e f) = own e ++ own f
+own (alt e f) = own e ++ own f
+own (star e) = own e
+own (pipe e f) = own e
+
 -- S3: how many letters
 unfoldable pub size : Exp → ℕ
 size (letter l) = 1

@@ -2,10 +2,11 @@
 use mathlib.Core.List.{List, [], _∷_, _++_, map}
 use mathlib.Core.Bool.{Bool, not, cond}
 use Prim.Native.Nat.{ℕ, zero, suc}
-use lib.Dec.{eqb}
+use lib.Dec.{eqb, leb}
 use lib.ListN.{length, getD, set}
-use Rattle.meaning.specs.Lists.{each, carry, all, null, only, member}
-use Rattle.meaning.specs.Expression.{Literal, wire, wire-store, wire-past, store, Write, from-wire, from-number, Letter, field, Exp, letter, seq, alt, star, pipe, letters}
+use Rattle.meaning.specs.Lists.{each, carry, any, all, count, null, only, keep, member}
+use Rattle.meaning.specs.Expression.{Literal, wire, wire-store, wire-past, store, Write, from-wire, from-number, Letter, field, Exp, letter, seq, alt, star, pipe, letters, own}
+use Rattle.meaning.specs.Shape.{threads}
 
 -- ---- a tick and its letters ----
 
@@ -63,7 +64,7 @@ merge [] s = s
 merge (a ∷ r) [] = a ∷ r
 merge (a ∷ r) (b ∷ s) = (a ++ b) ∷ merge r s
 
--- F16: both fit, "it fits only if each of them does". F17: "Each start must fit by itself, and none replaces an older one."
+-- F16: both fit, "it fits only if each of them does"
 abbrev pub both : List Run → List Run → List Run
 both rs ss = each rs (λ r. map (merge r) ss)
 
@@ -90,11 +91,33 @@ runs (alt e f) K ts = either (runs e K) (runs f K) ts
 runs (star e) K ts = rounds (runs e) K (length ts) ts
 runs (pipe e f) K ts = runs e (λ us. both (K us) (runs f anything us)) ts
 
--- F13: "as often as m ends it is asked once more": a star that is never left
-abbrev pub monitor : Exp → Rest
-monitor m = runs (star m) nothing
+-- F13: "as often as m ends it is asked once more": a star that is never left. The runs of all branches, not yet judged by F17.
+abbrev pub branches : Exp → Rest
+branches m = runs (star m) nothing
 
--- F13: a monitor fits from tick 0; F15: "exactly if some branch fits them"
+-- n is the number of one of the letters ls
+abbrev pub among : List Letter → ℕ → Bool
+among ls n = any (λ l. eqb n (l .number)) ls
+
+-- F17: how many letters the starts of the thread f require at a tick at which a branch has the letters ns. So many starts
+-- do: each "requires one letter at each tick that has a word", up to its last, and none behind that (proofs/Requires), and
+-- the letters of starts that run at once add up (`merge`).
+abbrev pub required : Exp → List ℕ → ℕ
+required f ns = count (among (own f)) ns
+
+-- F17: "two starts of one thread would each require a letter, be it the same one"
+unfoldable pub occupied : Exp → List ℕ → Bool
+occupied m ns = any (λ f. leb 2 (required f ns)) (threads m)
+
+-- F17: at no tick of the run; "the branch that has both does not fit"
+abbrev pub unoccupied : Exp → Run → Bool
+unoccupied m r = all (λ ns. not (occupied m ns)) r
+
+-- F17: "a branch that has no such tick is not concerned": the runs of the branches that are left
+abbrev pub monitor : Exp → List Tick → List Run
+monitor m ts = keep (unoccupied m) (branches m ts)
+
+-- F15: "exactly if some branch fits them"
 abbrev pub fits : Exp → List Tick → Bool
 fits m ts = not (null (monitor m ts))
 

@@ -45,6 +45,10 @@ module _ {A : Type 0} where
   only true xs = xs
   only false xs = []
 
+-- those that pass the test, in order
+abbrev pub keep : {A : Type 0} → (A → Bool) → List A → List A
+keep p xs = each xs (λ x. only (p x) (x ∷ []))
+
 -- the numbers below n, from the highest on
 abbrev pub below : ℕ → List ℕ
 below zero = []

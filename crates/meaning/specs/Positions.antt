@@ -1,12 +1,12 @@
 -- The machine of active positions (01: marks): it keeps the letters just met, and at each tick asks for what follows each (docs/REFERENCE.md, W7).
 use mathlib.Core.List.{List, [], _∷_, _++_, map}
-use mathlib.Core.Bool.{Bool, cond}
+use mathlib.Core.Bool.{Bool, not, cond, _&&_}
 use mathlib.Core.Option.{Option, none, some}
 use Prim.Native.Nat.{ℕ, suc}
-use lib.Dec.{eqb}
 use Rattle.meaning.specs.Lists.{each, any, only, member}
-use Rattle.meaning.specs.Expression.{Exp, letter, seq, alt, star, pipe, letters}
-use Rattle.meaning.specs.Fit.{Tick, meets, writeMet, Verdict, ok, bad}
+use Rattle.meaning.specs.Expression.{Exp, letter, seq, alt, star, pipe, letters, own}
+use Rattle.meaning.specs.Shape.{last}
+use Rattle.meaning.specs.Fit.{Tick, meets, among, writeMet, Verdict, ok, bad}
 use Rattle.meaning.specs.Calls.{Call, Reply, opening, repliesFrom}
 
 -- ---- one monitor ----
@@ -72,22 +72,34 @@ ask e K t = goesBy (enter e t) (K t)
 
 -- letter n stands in e
 abbrev pub has : ℕ → Exp → Bool
-has n e = any (λ l. eqb n (l .number)) (letters e)
+has n e = among (letters e) n
 
--- letter n of e is left: up through what it stands in, to K
-unfoldable pub leave : ℕ → Exp → Way → Way
-leave n (letter l) K t = K t
-leave n (seq e f) K t = cond (has n e) (leave n e (ask f K) t) (leave n f K t)
-leave n (alt e f) K t = cond (has n e) (leave n e K t) (leave n f K t)
-leave n (star e) K t = leave n e (ask (star e) K) t
-leave n (pipe e f) K t = cond (has n e) (leave n e (λ u. joined (K u) (ask f over u)) t) (leave n f over t)
+-- F17: letter n of a start of the thread f was met, and was not its last: the start requires another
+abbrev pub underWay : ℕ → Exp → Bool
+underWay n f = among (own f) n && not (last n f)
+
+-- some start of f does, where the letters ns were met
+abbrev pub busy : List ℕ → Exp → Bool
+busy ns f = any (λ n. underWay n f) ns
+
+-- the thread f is started, which cannot be where it is busy, as B says
+abbrev pub begin : (B : Exp → Bool) → Exp → Way
+begin B f t = cond (B f) none (ask f over t)
+
+-- letter n of e is left: up through what it stands in, to K; B says which threads are busy
+unfoldable pub leave : (B : Exp → Bool) → ℕ → Exp → Way → Way
+leave B n (letter l) K t = K t
+leave B n (seq e f) K t = cond (has n e) (leave B n e (ask f K) t) (leave B n f K t)
+leave B n (alt e f) K t = cond (has n e) (leave B n e K t) (leave B n f K t)
+leave B n (star e) K t = leave B n e (ask (star e) K) t
+leave B n (pipe e f) K t = cond (has n e) (leave B n e (λ u. joined (K u) (begin B f u)) t) (leave B n f over t)
 
 -- W7: "the state of a monitor is the set of its letters met at the last tick, or its start"
 pub data Positions : Type 0 where
   at-start : Positions
   on : List ℕ → Positions
 
--- every position must go on; F17: "Each start must fit by itself, and none replaces an older one."
+-- every position must go on
 unfoldable pub goAll : (ℕ → Way) → List ℕ → Way
 goAll W [] t = some []
 goAll W (n ∷ ns) t = joined (W n t) (goAll W ns t)
@@ -95,7 +107,7 @@ goAll W (n ∷ ns) t = joined (W n t) (goAll W ns t)
 -- one tick of the monitor m
 unfoldable pub go : Exp → Positions → Way
 go m at-start t = ask (star m) stuck t
-go m (on ns) t = goAll (λ n. leave n (star m) stuck) ns t
+go m (on ns) t = goAll (λ n. leave (busy ns) n (star m) stuck) ns t
 
 -- ---- the watch ----
 
@@ -132,7 +144,7 @@ writeEach t [] nss σ = σ
 writeEach t (m ∷ ms) [] σ = σ
 writeEach t (m ∷ ms) (ns ∷ nss) σ = writeEach t ms nss (writeMet t m ns σ)
 
--- the positions of m as a set: each letter of ns once, in reading order; F17: starts "at the same letter at the same tick .. count as one"
+-- the positions of m: each letter of ns once, in reading order; none stands in ns twice where m is accepted (proofs/Occupied, `stays-steady`)
 unfoldable pub kept : Exp → List ℕ → List ℕ
 kept m ns = each (letters m) (λ l. only (member (l .number) ns) (l .number ∷ []))
 

@@ -1,4 +1,4 @@
--- The walk over the rows of a table, which asking a row and leaving a row take turns in: fit (docs/REFERENCE.md, F6 to F10) for one tick, on rows. Assumes nothing.
+-- The walk over the rows of a table, which asking a row and leaving a row take turns in: fit (docs/REFERENCE.md, F6 to F10 and F17) for one tick, on rows. Assumes nothing.
 use mathlib.Core.Bool.{Bool, cond}
 use mathlib.Core.Option.{Option, none, some}
 use mathlib.Core.List.{List, []}
@@ -24,19 +24,19 @@ leaveBy is-alt on-left b c d = c
 leaveBy is-star on-left b c d = d
 leaveBy is-pipe on-left b c d = cond on-left (joined c b) (some [])
 
--- n bounds the calls
-unfoldable pub enterRow : ℕ → Table → ℕ → Tick → Entered
-enterRow zero R r t = blocked
-enterRow (suc n) R r t = enterBy (R r .kind) t (enterRow n R (R r .left) t) (enterRow n R (R r .right) t)
+-- n bounds the calls; shut tells the rows of busy threads (F17), which cannot be entered
+unfoldable pub enterRow : (shut : ℕ → Bool) → ℕ → Table → ℕ → Tick → Entered
+enterRow shut zero R r t = blocked
+enterRow shut (suc n) R r t = cond (shut r) blocked (enterBy (R r .kind) t (enterRow shut n R (R r .left) t) (enterRow shut n R (R r .right) t))
 
 -- a row is asked: it is entered, or else left where it can be left at once; a monitor's own row is asked again when it is left
 unfoldable mutual
-  pub askRow : ℕ → Table → ℕ → Way
-  askRow zero R r t = none
-  askRow (suc n) R r t = goesBy (enterRow n R r t) (leaveRow n R r t)
+  pub askRow : (shut : ℕ → Bool) → ℕ → Table → ℕ → Way
+  askRow shut zero R r t = none
+  askRow shut (suc n) R r t = goesBy (enterRow shut n R r t) (leaveRow shut n R r t)
 
-  pub leaveRow : ℕ → Table → ℕ → Way
-  leaveRow zero R r t = none
-  leaveRow (suc n) R r t =
-      cond (eqb (R r .up) r) (askRow n R r t)
-      (leaveBy (R (R r .up) .kind) (eqb r (R (R r .up) .left)) (askRow n R (R (R r .up) .right) t) (leaveRow n R (R r .up) t) (askRow n R (R r .up) t))
+  pub leaveRow : (shut : ℕ → Bool) → ℕ → Table → ℕ → Way
+  leaveRow shut zero R r t = none
+  leaveRow shut (suc n) R r t =
+      cond (eqb (R r .up) r) (askRow shut n R r t)
+      (leaveBy (R (R r .up) .kind) (eqb r (R (R r .up) .left)) (askRow shut n R (R (R r .up) .right) t) (leaveRow shut n R (R r .up) t) (askRow shut n R (R r .up) t))

@@ -22,7 +22,8 @@ use Rattle.meaning.proofs.Step.{Solid}
 use Rattle.meaning.proofs.Within.{LetterWithin}
 use Rattle.meaning.proofs.Walk.{a-row}
 use Rattle.meaning.proofs.Shifted.{shiftLetter, letters-renumbered}
-use Rattle.meaning.proofs.Accept.{accept-solid}
+use Rattle.meaning.proofs.Accept.{accept-solid, accept}
+use Rattle.meaning.proofs.OneWay.{Closed}
 use Rattle.meaning.proofs.Numbering.{renumbered-size, renumbered-rows}
 use Rattle.meaning.proofs.Openings.{machine-right, machine-stands, all-read}
 use Rattle.rules.specs.declared.Watch.{Watch}
@@ -30,16 +31,17 @@ use Rattle.rules.specs.Cells.{Link}
 use Rattle.rules.specs.Laying.{slotWord, slotNumber, slotsOf}
 use Rattle.rules.specs.Watches.{watchOf}
 use Rattle.monitor.specs.Letters.{Given, letterMet, writeLetter}
-use Rattle.monitor.specs.Ticks.{steps, stepWithin}
+use Rattle.monitor.specs.Ticks.{steps, emptyMemory, shutBusy, stepWithin}
 use Rattle.monitor.specs.Calls.{Moving, givenOf, layoutOf, judge, onward, stateOf, withState, repliesOf, watchAfterAll, Held}
 use Rattle.monitor.proofs.Padded.{padded}
 use Rattle.monitor.proofs.Readable.{Readable, accepted-readable}
 use Rattle.monitor.proofs.Writers.{writers-enough}
 use Rattle.monitor.proofs.LetterTests.{LetterGiven, letter-met, letter-writes}
 use Rattle.monitor.proofs.Coded.{Coded}
-use Rattle.monitor.proofs.Memory.{Memory, rowsOf, memory-empty}
+use Rattle.monitor.proofs.Memory.{Memory, rowsOf, shutIn, begun, memory-begun, begun-unmarked}
 use Rattle.monitor.proofs.MemoryLaws.{asks-right, leaves-right}
 use Rattle.monitor.proofs.Monitors.{AllStanding, all-go}
+use Rattle.monitor.proofs.ShutRows.{threads-shut, busy-shut}
 use Rattle.monitor.proofs.Moves.{AllWriteAs, MarksAll}
 use Rattle.monitor.proofs.Watching.{Steps, steps-right}
 use Rattle.monitor.proofs.Replies.{Like, watches-by, machine-replies, machine-states}
@@ -181,6 +183,9 @@ module _ (text : List ℕ) (o : Opened) (e : openText text ≡ value o) where
   solid : (m : Exp) → m ∈ o .monitors → Ordered 0 m × Solid (star m)
   solid m i = (all-read text o e m i .0, accept-solid m (all-read text o e m i .1))
 
+  closed : (m : Exp) → m ∈ o .monitors → Ordered 0 m × Closed m
+  closed m i = let (a, s) = all-read text o e m i in (a, accept m a s .closed)
+
   stands : AllStanding (Program.tableOf o) (v .places) (layoutOf v) (o .rowCount) 0 0 0 (o .monitors)
   unfolding v
   stands =
@@ -195,8 +200,12 @@ module _ (text : List ℕ) (o : Opened) (e : openText text ≡ value o) where
     unfolding v
     coded = Program.program-coded o c g (at w b σ) refl (λ m i x j. right .tests m i x j σ long w b)
 
-    abbrev Good : List ℕ → Type 0
-    Good = Memory (rowsOf steps (Program.tableOf o) (at w b σ)) (o .rowCount)
+    -- the memory at a tick's start, and the rows that are shut in it
+    abbrev first : List ℕ → List ℕ
+    first K = shutBusy g K (o .letterCount) emptyMemory
+
+    abbrev Good : (K : List ℕ) → List ℕ → Type 0
+    Good K = Memory (shutIn (first K)) (rowsOf (shutIn (first K)) steps (Program.tableOf o) (at w b σ)) (o .rowCount)
 
     in-room : total size (o .monitors) ≤ 256
     in-room = let a = c .few-letters in let b = c .letters-are in omega (arith, a, b)
@@ -205,14 +214,18 @@ module _ (text : List ℕ) (o : Opened) (e : openText text ≡ value o) where
         → Steps (o .monitors) (at w b σ) σ padded (length (o .initial)) (machine.goEach 0 (o .monitors) xs (at w b σ)) (stepWithin g (layoutOf v) K)
     unfolding v
     step-from K xs h =
-        steps-right Good (λ M p. p .long) (λ M p. p .bits) (memory-empty (rowsOf steps (Program.tableOf o) (at w b σ)) (o .rowCount)) g (at w b σ) (layoutOf v) K (o .monitors) ordered
+        let start = begun g K (o .letterCount) in
+        let same : v .letters ≡ o .letterCount = Program.letters-counted o c in
+        steps-right (Good K) (λ M p. p .long) (λ M p. p .bits) g (at w b σ) (layoutOf v) K
+        (rw same (memory-begun steps (Program.tableOf o) (at w b σ) (o .rowCount) (first K) (let f = c .few-rows in omega (arith, f)) start))
+        (rw same (begun-unmarked (first K) start)) (o .monitors) ordered
         (Program.monitors-counted o c) (c .few-monitors) (Program.letters-counted o c ∙ sym (c .letters-are)) in-room
         (writers-enough v (padded σ) (two w b) (total size (o .monitors)) in-room)
         xs σ padded (length (o .initial)) h long refl
-        (all-go Good g (at w b σ) (Program.tableOf o) (o .rowCount) (layoutOf v) K
-        (λ r l e. asks-right (Program.tableOf o) g (at w b σ) (o .rowCount) coded steps steps r l e (omega arith))
-        (λ r l e. leaves-right (Program.tableOf o) g (at w b σ) (o .rowCount) coded steps steps r l e (omega arith))
-        0 0 0 (o .monitors) xs stands solid h)
+        (all-go (Good K) g (at w b σ) (shutIn (first K)) (Program.tableOf o) (threads-shut o c (padded σ) (two w b) K) (o .rowCount) (layoutOf v) K
+        (λ r l e. asks-right (shutIn (first K)) (Program.tableOf o) g (at w b σ) (o .rowCount) coded steps steps r l e (omega arith))
+        (λ r l e. leaves-right (shutIn (first K)) (Program.tableOf o) g (at w b σ) (o .rowCount) coded steps steps r l e (omega arith))
+        0 0 0 (o .monitors) xs stands solid h (busy-shut o c (padded σ) (two w b) K closed xs h))
         (λ Q. all-write g (at w b σ) Q padded (length (o .initial)) 0 (o .monitors) ordered (λ m i x j ρ d. right .writes m i x j σ long ρ d w b))
 
   step-right : (s : Moving) (m : machine.Watch) → Like (o .monitors) padded (length (o .initial)) s m → (w : ℕ)

@@ -23,8 +23,14 @@ pub mod Looks
 mod LetterSteps
 -- what does nothing for an unmarked letter goes on from the first marked one; the new marks
 mod Marked
+-- the thread of each letter, by the branches and the loop of the code
+mod ThreadSteps
 -- behind the last letter that writes nothing is written
 mod Writers
+-- the rows shut at a tick are those of the threads that are busy
+mod Shut
+-- in the watch of an accepted text
+mod ShutRows
 -- a tick, by the loops and branches of the code
 pub mod TickSteps
 -- a list that is stored in an array stands there
@@ -41,6 +47,8 @@ mod LetterIndex
 mod LetterRows
 -- what stands in the watch of an accepted text, its table word for word (`table-right`)
 pub mod Program
+-- its letters' threads are those of its expressions (`thread-rows-right`), and how many letters need be looked at for them (`threaded-enough`)
+pub mod ThreadRows
 -- a watch's store values are the meaning's with zeros behind them
 mod Padded
 -- the literals, writes and first store values of an accepted text fit the watch

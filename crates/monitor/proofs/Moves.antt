@@ -15,7 +15,7 @@ use Rattle.meaning.proofs.ListLaws.{here, there, clash, no-∈, append-∈, ∈
 use Rattle.meaning.proofs.Shifted.{shiftAll, shiftPositions}
 use Rattle.rules.proofs.Placing.{letters-long}
 use Rattle.monitor.specs.Letters.{Given, writeLetter}
-use Rattle.monitor.specs.Ticks.{writeIf, writeMarked}
+use Rattle.monitor.specs.Ticks.{eachMarked, writeIf, writeMarked}
 use Rattle.monitor.proofs.LetterTests.{writes-length}
 use Rattle.monitor.proofs.Going.{markedFrom, MarksAre, spread}
 
@@ -91,7 +91,7 @@ module _ (g : Given) (t : Tick) (K : List ℕ) (l : ℕ) (ns : List ℕ) (pad : 
 
   pub marks-written : (j : ℕ) (xs : List Letter) → Counted j xs → MarkedAs K l (j + length xs) ns → ((x : Letter) → x ∈ xs → WritesAs x) → (σ : List ℕ) → length σ ≡ stores
       → (writeMarked g K (length xs) (l + j) (pad σ) ≡ pad (carry (writesOf t ns) σ xs)) × (length (carry (writesOf t ns) σ xs) ≡ stores)
-  unfolding writeMarked
+  unfolding eachMarked
   marks-written j [] c h w σ e = (refl, e)
   marks-written j (x ∷ xs) c h w σ e =
       let s : suc j + length xs ≡ j + suc (length xs) = omega arith in
@@ -198,7 +198,7 @@ marks-all K i l (m ∷ ms) (ns ∷ nss) o z a = (
 )
 
 pub writes-split : (g : Given) (K : List ℕ) (a b l : ℕ) (σ : List ℕ) → writeMarked g K (a + b) l σ ≡ writeMarked g K b (l + a) (writeMarked g K a l σ)
-unfolding writeMarked
+unfolding eachMarked
 writes-split g K zero b l σ =
     let e : l ≡ l + 0 = omega arith in
     let f : 0 + b ≡ b = omega arith in
@@ -217,7 +217,7 @@ module _ (g : Given) (t : Tick) (K : List ℕ) (pad : List ℕ → List ℕ) (st
   pub writes-all : (l : ℕ) (ms : List Exp) (nss : List (List ℕ)) → ((m : Exp) → m ∈ ms → Ordered 0 m) → AllMarkedAs K l ms nss → AllWriteAs l ms
       → (σ : List ℕ) → length σ ≡ stores
       → (writeMarked g K (total size ms) l (pad σ) ≡ pad (writeEach t ms nss σ)) × (length (writeEach t ms nss σ) ≡ stores)
-  unfolding AllMarkedAs AllWriteAs writeEach writeMet writeMarked
+  unfolding AllMarkedAs AllWriteAs writeEach writeMet eachMarked
   writes-all l [] [] o a w σ e = (refl, e)
   writes-all l [] (ns ∷ nss) o a w σ e = absurd a
   writes-all l (m ∷ ms) [] o a w σ e = absurd a

@@ -101,7 +101,7 @@ module _ (Q : Letter → Type 0) (n : ℕ) where
 -- ---- what stands under an `@`
 
 module _ (R : Table) where
-  laid-up : (r up : ℕ) (e : Exp) → Stands R r (laid r up e) → R r .up ≡ up
+  pub laid-up : (r up : ℕ) (e : Exp) → Stands R r (laid r up e) → R r .up ≡ up
   unfolding laid
   laid-up r up (letter l) s = ap (λ x. x .up) (s .0)
   laid-up r up (seq e f) s = ap (λ x. x .up) (s .0)

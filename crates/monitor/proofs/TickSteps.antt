@@ -7,14 +7,14 @@ use native.Mathlib.Omega.{arith}
 use native.Mathlib.Nat.{div-lt-iff-lt-mul, div-eq-of-lt}
 use borrow.Author.Tests.{eq-eqb, ne-eqb, lt-ltb, le-ltb, lt-leb, le-leb, leb-true, leb-false}
 use lib.Dec.{eqb, leb, ltb}
-use lib.ListN.{getD}
+use lib.ListN.{getD, set}
 use lib.Pow.{pow-pos, pow-mono}
 use Rattle.meaning.specs.Fit.{ok as clean, bad as broken}
 use Rattle.meaning.specs.Calls.{Reply, refused, isStray, isFull, reply, after, replyOf as verdictReply}
-use Rattle.words.specs.Words.{part0}
-use Rattle.monitor.specs.Letters.{Given, given, writeLetter}
+use Rattle.words.specs.Words.{part1}
+use Rattle.monitor.specs.Letters.{Given, given, threaded}
 use Rattle.monitor.specs.Walk.{Told, told, askM, leaveM}
-use Rattle.monitor.specs.Ticks.{steps, Layout, layout, firstMarked, andThen, letterGoes, lettersGo, startGoes, lettersEnd, monitorGoes, Reached, reached, reachedBy, monitorsGo, marksAfter, writeIf, writeMarked, writers, Move, move, emptyMemory, moveBy, stepWithin, stepOf, within, stuckAt}
+use Rattle.monitor.specs.Ticks.{steps, Layout, layout, firstMarked, ifMarked, eachMarked, shutRow, shutFor, shutBusy, andThen, letterGoes, lettersGo, startGoes, lettersEnd, monitorGoes, Reached, reached, reachedBy, monitorsGo, marksAfter, writeMarked, writers, Move, move, emptyMemory, moveBy, stepWithin, stepOf, within, stuckAt}
 use Rattle.rules.specs.declared.Watch.{Watch}
 use Rattle.monitor.specs.Calls.{Moving, tablesOf, withState, refusedBy, stateOf, judge, onward, stepFrom, layoutOf, replyOf, watchAfter}
 use Rattle.monitor.specs.Shown.{shownAnswer}
@@ -22,38 +22,50 @@ use Rattle.monitor.specs.declared.Answer.the-variants.{Ok, Bad, Refused}
 use Rattle.monitor.proofs.LetterSteps.{taken, left}
 use Rattle.monitor.proofs.Marked.{to-first}
 
--- ---- what a good tick leaves
+-- ---- what is done for marked letters; f is what is done for one
 
-pub not-written : (g : Given) (K : List ℕ) (l : ℕ) (σ : List ℕ) → getD K l 0 ≡ 0 → σ ≡ writeIf g K l σ
-not-written g K l σ z = sym (taken (eqb (getD K l 0) 0) σ _ (eq-eqb (getD K l 0) 0 z))
+module _ (K : List ℕ) (f : ℕ → List ℕ → List ℕ) where
+  pub not-done : (l : ℕ) (σ : List ℕ) → getD K l 0 ≡ 0 → σ ≡ ifMarked K f l σ
+  not-done l σ z = sym (taken (eqb (getD K l 0) 0) σ _ (eq-eqb (getD K l 0) 0 z))
 
-pub written : (g : Given) (K : List ℕ) (l : ℕ) (σ τ : List ℕ) → (getD K l 0 ≡ 0 → ⊥) → τ ≡ writeLetter g l σ → τ ≡ writeIf g K l σ
-written g K l σ τ z e = e ∙ sym (left (eqb (getD K l 0) 0) σ _ (ne-eqb (getD K l 0) 0 z))
+  pub done : (l : ℕ) (σ τ : List ℕ) → (getD K l 0 ≡ 0 → ⊥) → τ ≡ f l σ → τ ≡ ifMarked K f l σ
+  done l σ τ z e = e ∙ sym (left (eqb (getD K l 0) 0) σ _ (ne-eqb (getD K l 0) 0 z))
 
--- an unmarked letter writes nothing
-idle-write : (g : Given) (K σ : List ℕ) (n l : ℕ) → getD K l 0 ≡ 0 → writeMarked g K (suc n) l σ ≡ writeMarked g K n (suc l) σ
-unfolding writeMarked
-idle-write g K σ n l z = ap (writeMarked g K n (suc l)) (sym (not-written g K l σ z))
+  -- nothing for an unmarked one
+  idle-done : (σ : List ℕ) (n l : ℕ) → getD K l 0 ≡ 0 → eachMarked K f (suc n) l σ ≡ eachMarked K f n (suc l) σ
+  unfolding eachMarked
+  idle-done σ n l z = ap (eachMarked K f n (suc l)) (sym (not-done l σ z))
 
-to-first-write : (g : Given) (K : List ℕ) (n i : ℕ) (σ : List ℕ) (j : ℕ) → j ≡ firstMarked K (n - i) i → writeMarked g K (n - i) i σ ≡ writeMarked g K (n - j) j σ
-to-first-write g K n i σ j = to-first K (λ m l. writeMarked g K m l σ) (idle-write g K σ) n i j
+  to-first-done : (n i : ℕ) (σ : List ℕ) (j : ℕ) → j ≡ firstMarked K (n - i) i → eachMarked K f (n - i) i σ ≡ eachMarked K f (n - j) j σ
+  to-first-done n i σ j = to-first K (λ m l. eachMarked K f m l σ) (idle-done σ) n i j
 
-pub written-first : (g : Given) (K : List ℕ) (n : ℕ) (σ : List ℕ) (j : ℕ) → j ≡ firstMarked K (n - 0) 0 → writeMarked g K n 0 σ ≡ writeMarked g K (n - j) j σ
-written-first g K n σ j e = let d : n ≡ n - 0 = omega arith in ap (λ (m : ℕ). writeMarked g K m 0 σ) d ∙ to-first-write g K n 0 σ j e
+  pub done-first : (n : ℕ) (σ : List ℕ) (j : ℕ) → j ≡ firstMarked K (n - 0) 0 → eachMarked K f n 0 σ ≡ eachMarked K f (n - j) j σ
+  done-first n σ j e = let d : n ≡ n - 0 = omega arith in ap (λ (m : ℕ). eachMarked K f m 0 σ) d ∙ to-first-done n 0 σ j e
 
-pub written-more : (g : Given) (K : List ℕ) (n i : ℕ) (σ τ : List ℕ) → i < n → τ ≡ writeIf g K i σ → (j : ℕ) → j ≡ firstMarked K (n - (i + 1)) (i + 1)
-    → writeMarked g K (n - i) i σ ≡ writeMarked g K (n - j) j τ
-unfolding writeMarked
-written-more g K n i σ τ l e j f =
-    let d : n - i ≡ suc (n - (i + 1)) = omega arith in
-    let s : suc i ≡ i + 1 = omega arith in
-    ap (λ (m : ℕ). writeMarked g K m i σ) d ∙ ap₂ (λ (j : ℕ) (υ : List ℕ). writeMarked g K (n - (i + 1)) j υ) s (sym e) ∙ to-first-write g K n (i + 1) τ j f
+  pub done-more : (n i : ℕ) (σ τ : List ℕ) → i < n → τ ≡ ifMarked K f i σ → (j : ℕ) → j ≡ firstMarked K (n - (i + 1)) (i + 1)
+      → eachMarked K f (n - i) i σ ≡ eachMarked K f (n - j) j τ
+  unfolding eachMarked
+  done-more n i σ τ l e j q =
+      let d : n - i ≡ suc (n - (i + 1)) = omega arith in
+      let s : suc i ≡ i + 1 = omega arith in
+      ap (λ (m : ℕ). eachMarked K f m i σ) d ∙ ap₂ (λ (j : ℕ) (υ : List ℕ). eachMarked K f (n - (i + 1)) j υ) s (sym e) ∙ to-first-done n (i + 1) τ j q
 
-pub written-all : (g : Given) (K : List ℕ) (n i : ℕ) (σ τ : List ℕ) → n ≤ i → writeMarked g K n 0 σ ≡ writeMarked g K (n - i) i τ → τ ≡ writeMarked g K n 0 σ
-unfolding writeMarked
-written-all g K n i σ τ l e =
-    let d : n - i ≡ 0 = omega arith in
-    sym (e ∙ ap (λ (m : ℕ). writeMarked g K m i τ) d)
+  pub done-all : (n i : ℕ) (σ τ : List ℕ) → n ≤ i → eachMarked K f n 0 σ ≡ eachMarked K f (n - i) i τ → τ ≡ eachMarked K f n 0 σ
+  unfolding eachMarked
+  done-all n i σ τ l e =
+      let d : n - i ≡ 0 = omega arith in
+      sym (e ∙ ap (λ (m : ℕ). eachMarked K f m i τ) d)
+
+-- ---- threads that are busy
+
+pub no-thread : (r : ℕ) (M : List ℕ) → r ≡ 0 → M ≡ shutRow r M
+no-thread r M z = sym (taken (eqb r 0) M _ (eq-eqb r 0 z))
+
+pub no-such-row : (r : ℕ) (M : List ℕ) → (r ≡ 0 → ⊥) → 1024 ≤ r → M ≡ shutRow r M
+no-such-row r M z h = sym (left (eqb r 0) M _ (ne-eqb r 0 z) ∙ taken (leb 1024 r) M _ (le-leb 1024 r h))
+
+pub shut-row : (r : ℕ) (M N : List ℕ) → (r ≡ 0 → ⊥) → r < 1024 → N ≡ set M r 1 → N ≡ shutRow r M
+shut-row r M N z h e = e ∙ sym (left (eqb r 0) M _ (ne-eqb r 0 z) ∙ left (leb 1024 r) M _ (lt-leb 1024 r h))
 
 -- ---- active positions go on
 
@@ -168,11 +180,14 @@ no-monitor g y K n M = let d : n ≡ n - 0 = omega arith in ap (λ (m : ℕ). mo
 -- ---- one tick
 
 -- no more monitors and letters than there is room for
-pub walk-within : (g : Given) (p o f : List ℕ) (m l : ℕ) (K : List ℕ) (M : List ℕ) (t : Reached) (m′ l′ : ℕ) → m′ ≡ min m 32 → l′ ≡ min l 256 → t ≡ monitorsGo g (layout p o f m′ l′) K m′ 0 M
-    → t ≡ monitorsGo g (layout p o f (min m 32) (min l 256)) K (min m 32) 0 M
-walk-within g p o f m l K M t m′ l′ e d r = r ∙ ap₂ (λ (a b : ℕ). monitorsGo g (layout p o f a b) K a 0 M) e d
+pub walk-within : (g : Given) (p o f : List ℕ) (m l : ℕ) (K : List ℕ) (M N : List ℕ) (t : Reached) (m′ l′ q k : ℕ) → m′ ≡ min m 32 → l′ ≡ min l 256 → q ≡ threaded g → k ≡ min q l′
+    → N ≡ eachMarked K (shutFor g) k 0 M → t ≡ monitorsGo g (layout p o f m′ l′) K m′ 0 N
+    → t ≡ monitorsGo g (layout p o f (min m 32) (min l 256)) K (min m 32) 0 (shutBusy g K (min l 256) M)
+walk-within g p o f m l K M N t m′ l′ q k e d u v n r =
+    r ∙ ap (monitorsGo g (layout p o f m′ l′) K m′ 0) (n ∙ ap (λ (j : ℕ). eachMarked K (shutFor g) j 0 M) (v ∙ ap₂ min u d))
+    ∙ ap₂ (λ (a b : ℕ). monitorsGo g (layout p o f a b) K a 0 (shutBusy g K (min l 256) M)) e d
 
-module _ (g : Given) (y : Layout) (K : List ℕ) (i : ℕ) (M : List ℕ) (r : reached i M ≡ monitorsGo g (within y) K (within y .monitors) 0 emptyMemory) where
+module _ (g : Given) (y : Layout) (K : List ℕ) (i : ℕ) (M : List ℕ) (r : reached i M ≡ monitorsGo g (within y) K (within y .monitors) 0 (shutBusy g K (within y .letters) emptyMemory)) where
   step-any : moveBy g (within y) K (reached i M) ≡ stepOf g y K
   unfolding stepWithin
   step-any = ap (moveBy g (within y) K) r
@@ -189,7 +204,7 @@ module _ (g : Given) (y : Layout) (K : List ℕ) (i : ℕ) (M : List ℕ) (r : r
     pub step-stops : b ≡ true → move i K (g .values) ≡ stepOf g y K
     step-stops h = sym (taken (stuckAt i (y .monitors)) (move i K (g .values)) _ (sym f ∙ h)) ∙ step-any
 
-    pub step-moves : b ≡ false → (N σ : List ℕ) → N ≡ marksAfter 256 M → (q l k : ℕ) → q ≡ part0 (getD (g .letters) 768 0) → l ≡ min (y .letters) 256 → k ≡ min q l → σ ≡ writeMarked g N k 0 (g .values)
+    pub step-moves : b ≡ false → (N σ : List ℕ) → N ≡ marksAfter 256 M → (q l k : ℕ) → q ≡ part1 (getD (g .letters) 768 0) → l ≡ min (y .letters) 256 → k ≡ min q l → σ ≡ writeMarked g N k 0 (g .values)
         → move i N σ ≡ stepOf g y K
     step-moves h N σ a q l k u c v w =
         ap₂ (λ (s t : List ℕ). move i s t) a (w ∙ ap₂ (λ (s : List ℕ) (j : ℕ). writeMarked g s j 0 (g .values)) a (v ∙ ap₂ min u c))

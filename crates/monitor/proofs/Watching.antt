@@ -18,9 +18,9 @@ use Rattle.meaning.proofs.ListLaws.{here, there, no-∈, clash}
 use Rattle.meaning.proofs.Numbering.{between}
 use Rattle.meaning.proofs.Sets.{go-inside}
 use Rattle.monitor.specs.Letters.{Given}
-use Rattle.monitor.specs.Ticks.{Layout, marksAfter, writeMarked, writers, Reached, Move, move, emptyMemory, moveBy, monitorsGo, stepWithin}
+use Rattle.monitor.specs.Ticks.{Layout, marksAfter, writeMarked, writers, Reached, Move, move, emptyMemory, shutBusy, moveBy, monitorsGo, stepWithin}
 use Rattle.monitor.proofs.Padded.{zeros-at}
-use Rattle.monitor.proofs.Memory.{empty-unmarked, Exactly}
+use Rattle.monitor.proofs.Memory.{Marked, Exactly}
 use Rattle.monitor.proofs.Going.{AllGo, Went, monitors-go, spread}
 use Rattle.monitor.proofs.Moves.{AllInside, all-marked, to-member, from-member, MarksAll, marks-all, AllWriteAs, writes-all}
 
@@ -86,11 +86,15 @@ pub record Steps (ms : List Exp) (t : Tick) (σ : List ℕ) (pad : List ℕ → 
       → (z .monitor ≡ length ms) × MarksAll (z .marks) 0 0 ms (keptEach ms nss) × (z .values ≡ pad (writeEach t ms nss σ)) × (length (writeEach t ms nss σ) ≡ stores)
 
 module _ (Good : List ℕ → Type 0) (long : (M : List ℕ) → Good M → length M ≡ 1280) (bits : (M : List ℕ) → Good M → (l : ℕ) → l < 256 → getD M (1024 + l) 0 ≤ 1)
-    (empty : Good emptyMemory) (g : Given) (t : Tick) (y : Layout) (K : List ℕ) (ms : List Exp) (ordered : (m : Exp) → m ∈ ms → Ordered 0 m)
+    (g : Given) (t : Tick) (y : Layout) (K : List ℕ) (first : Good (shutBusy g K (y .letters) emptyMemory)) (clear : (l : ℕ) → Marked (shutBusy g K (y .letters) emptyMemory) l → ⊥) (ms : List Exp) (ordered : (m : Exp) → m ∈ ms → Ordered 0 m)
     (monitors : y .monitors ≡ length ms) (few-monitors : length ms ≤ 32) (letters : y .letters ≡ total size ms) (few-letters : total size ms ≤ 256)
     (enough : (Q ρ : List ℕ) → writeMarked g Q (writers g (total size ms)) 0 ρ ≡ writeMarked g Q (total size ms) 0 ρ) where
+  -- the memory at the tick's start
+  abbrev begin : List ℕ
+  begin = shutBusy g K (y .letters) emptyMemory
+
   -- the marks in a memory, letter by letter
-  marked-if : (M ks : List ℕ) → Exactly Good emptyMemory ks M → (k : ℕ) → k < total size ms
+  marked-if : (M ks : List ℕ) → Exactly Good begin ks M → (k : ℕ) → k < total size ms
       → eqb (getD (marksAfter 256 M) k 0) 0 ≡ not (member k ks)
   marked-if M ks x k c = ap (λ (z : ℕ). eqb z 0) (after-at 256 M (omega arith) (long M (x .good)) k (omega (arith, c, few-letters))) ∙ by (member k ks) refl
     where
@@ -99,15 +103,15 @@ module _ (Good : List ℕ → Type 0) (long : (M : List ℕ) → Good M → leng
       by false e =
           eq-eqb (getD M (1024 + k) 0) 0
           (zero-or (getD M (1024 + k) 0) (bits M (x .good) k (omega (arith, c, few-letters)))
-          (λ p. ⊎-elim (empty-unmarked k) (λ q. subst T e (to-member k ks q)) (x .only k p)))
+          (λ p. ⊎-elim (clear k) (λ q. subst T e (to-member k ks q)) (x .only k p)))
 
   module _ (xs : List Positions) (σ : List ℕ) (pad : List ℕ → List ℕ) (stores : ℕ) (marked : MarksAll K 0 0 ms xs) (long-values : length σ ≡ stores) (padded : g .values ≡ pad σ)
       (go-all : AllGo Good g t y K 0 0 ms xs) (writes : (Q : List ℕ) → AllWriteAs g t Q pad stores 0 ms) where
-    went : Went Good g t y K 0 (length ms) 0 ms (goEach 0 ms xs t) emptyMemory (monitorsGo g y K (y .monitors) 0 emptyMemory)
-    went = subst (λ (c : ℕ). Went Good g t y K 0 (length ms) 0 ms (goEach 0 ms xs t) emptyMemory (monitorsGo g y K c 0 emptyMemory)) (sym monitors)
-        (monitors-go Good g t y K 0 0 ms xs go-all emptyMemory empty)
+    went : Went Good g t y K 0 (length ms) 0 ms (goEach 0 ms xs t) begin (monitorsGo g y K (y .monitors) 0 begin)
+    went = subst (λ (c : ℕ). Went Good g t y K 0 (length ms) 0 ms (goEach 0 ms xs t) begin (monitorsGo g y K c 0 begin)) (sym monitors)
+        (monitors-go Good g t y K 0 0 ms xs go-all begin first)
 
-    bad-step : (z : Reached) (j : ℕ) → Went Good g t y K 0 (length ms) 0 ms (wrong j) emptyMemory z → (moveBy g y K z .monitor ≡ j) × (j < length ms)
+    bad-step : (z : Reached) (j : ℕ) → Went Good g t y K 0 (length ms) 0 ms (wrong j) begin z → (moveBy g y K z .monitor ≡ j) × (j < length ms)
     unfolding Went
     bad-step z j (p, q) =
         let b : ltb (z .monitor) (y .monitors) ≡ true = lt-ltb (z .monitor) (y .monitors) (omega (arith, p, q, monitors)) in (
@@ -115,7 +119,7 @@ module _ (Good : List ℕ → Type 0) (long : (M : List ℕ) → Good M → leng
           omega (arith, q),
         )
 
-    good-step : (z : Reached) (nss : List (List ℕ)) → AllInside ms nss → Went Good g t y K 0 (length ms) 0 ms (fine nss) emptyMemory z
+    good-step : (z : Reached) (nss : List (List ℕ)) → AllInside ms nss → Went Good g t y K 0 (length ms) 0 ms (fine nss) begin z
         → (moveBy g y K z .monitor ≡ length ms) × MarksAll (moveBy g y K z .marks) 0 0 ms (keptEach ms nss) × (moveBy g y K z .values ≡ pad (writeEach t ms nss σ))
         × (length (writeEach t ms nss σ) ≡ stores)
     unfolding Went
@@ -131,7 +135,7 @@ module _ (Good : List ℕ → Type 0) (long : (M : List ℕ) → Good M → leng
     pub steps-right : Steps ms t σ pad stores (goEach 0 ms xs t) (stepWithin g y K)
     unfolding stepWithin
     steps-right = record {
-      stands = λ j e. bad-step (monitorsGo g y K (y .monitors) 0 emptyMemory) j (subst (λ (a : Ticked). Went Good g t y K 0 (length ms) 0 ms a emptyMemory (monitorsGo g y K (y .monitors) 0 emptyMemory)) e went);
-      goes = λ nss e. good-step (monitorsGo g y K (y .monitors) 0 emptyMemory) nss (all-inside 0 0 K ms xs t nss marked ordered e)
-          (subst (λ (a : Ticked). Went Good g t y K 0 (length ms) 0 ms a emptyMemory (monitorsGo g y K (y .monitors) 0 emptyMemory)) e went);
+      stands = λ j e. bad-step (monitorsGo g y K (y .monitors) 0 begin) j (subst (λ (a : Ticked). Went Good g t y K 0 (length ms) 0 ms a begin (monitorsGo g y K (y .monitors) 0 begin)) e went);
+      goes = λ nss e. good-step (monitorsGo g y K (y .monitors) 0 begin) nss (all-inside 0 0 K ms xs t nss marked ordered e)
+          (subst (λ (a : Ticked). Went Good g t y K 0 (length ms) 0 ms a begin (monitorsGo g y K (y .monitors) 0 begin)) e went);
     }

@@ -1,5 +1,5 @@
 -- A look or a take on a watch, and a list of them (docs/REFERENCE.md, W2 to W11): any watch, any words. Assumes nothing.
-use mathlib.Core.Bool.{Bool, cond}
+use mathlib.Core.Bool.{Bool, cond, _&&_}
 use mathlib.Core.List.{List, [], _∷_}
 use mathlib.Core.Path.{_≡_}
 use Prim.Native.Nat.{ℕ, zero, suc, _+_, _*_}
@@ -9,8 +9,10 @@ use lib.Seq.{sets}
 use Rattle.refusals.specs.Numbers.{stray, stopped, full}
 use Rattle.meaning.specs.Fit.{Verdict, History}
 use Rattle.meaning.specs.Calls.{Call, look, take, wordOf, Reply, isFull, isStray, State, reply, after}
+use Rattle.words.specs.Words.{quad}
 use Rattle.rules.specs.declared.Watch.{Watch}
 use Rattle.monitor.specs.Letters.{Given, given}
+use Rattle.monitor.specs.Threads.{threadsOf}
 use Rattle.monitor.specs.Ticks.{Layout, layout, Move, stepOf, verdictOf}
 
 -- W7: what moves from tick to tick, the marks, the store values and the word of the last tick.
@@ -19,18 +21,31 @@ pub record Moving : Type 0 where
   pub values : List ℕ
   pub last : ℕ
 
--- the rest of a watch: what each letter looks at, 256 places on what it wants, 512 on the wires that must be as before; and at 768 how many letters there are up to the last that writes
-abbrev pub lettersOf : (look want held : List ℕ) → (writers : ℕ) → List ℕ
-lettersOf a b h n = set (sets (sets (sets (replicate 1024 0) 0 a) 256 b) 512 h) 768 n
+-- the rest of a watch: what each letter looks at, 256 places on what it wants, 512 on the wires that must be as before, 768 on the row of the thread that it goes on in, or 0; and with that of letter 0 the
+-- numbers of letters up to the last that writes and up to the last that goes on in a thread
+abbrev pub lettersOf : (look want held threads : List ℕ) → (writers threaded : ℕ) → List ℕ
+lettersOf a b h t n m = set (sets (sets (sets (sets (replicate 1024 0) 0 a) 256 b) 512 h) 768 t) 768 (quad (getD t 0 0) n m 0)
 
--- of the first n letters so many, up to the last that has a write
-unfoldable pub writersOf : (links : List ℕ) → (n : ℕ) → ℕ
-writersOf c zero = zero
-writersOf c (suc n) = cond (eqb (getD c (4 * n + 2) 0) 0) (cond (eqb (getD c (4 * n + 3) 0) 0) (writersOf c n) (suc n)) (suc n)
+-- of the first n letters so many, up to the last that is not idle
+unfoldable pub upTo : (idle : ℕ → Bool) → (n : ℕ) → ℕ
+upTo p zero = zero
+upTo p (suc n) = cond (p n) (upTo p n) (suc n)
+
+-- up to the last that has a write
+abbrev pub writersOf : (links : List ℕ) → (n : ℕ) → ℕ
+writersOf c n = upTo (λ l. eqb (getD c (4 * l + 2) 0) 0 && eqb (getD c (4 * l + 3) 0) 0) n
+
+-- up to the last that goes on in a thread
+abbrev pub threadedOf : (threads : List ℕ) → (n : ℕ) → ℕ
+threadedOf t n = upTo (λ l. eqb (getD t l 0) 0) n
+
+-- of a watch, with the threads of its letters
+abbrev pub lettersBy : Watch → (threads : List ℕ) → List ℕ
+lettersBy v t = lettersOf (v .look) (v .want) (v .held) t (writersOf (v .links) 256) (threadedOf t 256)
 
 -- its tables, as a tick is lent them
 abbrev pub tablesOf : Watch → List (List ℕ)
-tablesOf v = v .table ∷ v .links ∷ v .numbers ∷ lettersOf (v .look) (v .want) (v .held) (writersOf (v .links) 256) ∷ []
+tablesOf v = v .table ∷ v .links ∷ v .numbers ∷ lettersBy v (threadsOf (v .table) (v .rows)) ∷ []
 
 abbrev pub givenOf : Watch → (values words : List ℕ) → Given
 givenOf v σ ws = given (tablesOf v) σ ws

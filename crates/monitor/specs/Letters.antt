@@ -10,8 +10,8 @@ use Rattle.masks.specs.Wires.{passes}
 use Rattle.words.specs.Words.{part0, part1, part2}
 
 -- What a tick is judged by: the rows, each in one word; the letters' links and their numbers; for each letter the wires that it looks at, 256 places on the values that
--- it wants and 512 on the wires that must be as before, and at 768 how many letters there are up to the last that writes; the store values before the tick, its word and the
--- one before it.
+-- it wants, 512 on the wires that must be as before and 768 on, in part 0, the row of the thread that it goes on in; at 768 also how many letters there are up to the last
+-- that writes (part 1) and up to the last that goes on in a thread (part 2); the store values before the tick, its word and the one before it.
 pub record Given : Type 0 where
   pub table : List ℕ
   pub links : List ℕ
@@ -52,3 +52,11 @@ writeSlot g i σ = cond (eqb (getD (g .links) i 0) 0) σ (set σ (part0 (getD (g
 -- the writes of a letter; F21: "within a letter the one further right"
 unfoldable pub writeLetter : Given → (letter : ℕ) → List ℕ → List ℕ
 writeLetter g l σ = writeSlot g (4 * l + 3) (writeSlot g (4 * l + 2) σ)
+
+-- the row of the thread that a letter goes on in, or 0
+abbrev pub threadRowOf : Given → (letter : ℕ) → ℕ
+threadRowOf g l = part0 (getD (g .letters) (768 + l) 0)
+
+-- so many letters there are up to the last that goes on in one
+abbrev pub threaded : Given → ℕ
+threaded g = part2 (getD (g .letters) 768 0)

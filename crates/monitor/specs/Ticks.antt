@@ -2,12 +2,12 @@
 use mathlib.Core.Bool.{Bool, true, cond}
 use mathlib.Core.List.{List}
 use Prim.Native.Nat.{ℕ, zero, suc, _+_, _-_, min}
-use lib.Dec.{eqb, ltb}
-use lib.ListN.{getD, take, drop, replicate}
+use lib.Dec.{eqb, leb, ltb}
+use lib.ListN.{getD, set, take, drop, replicate}
 use lib.Seq.{sets}
 use Rattle.meaning.specs.Fit.{Verdict, ok, bad}
-use Rattle.words.specs.Words.{part0}
-use Rattle.monitor.specs.Letters.{Given, writeLetter}
+use Rattle.words.specs.Words.{part1}
+use Rattle.monitor.specs.Letters.{Given, threadRowOf, threaded, writeLetter}
 use Rattle.monitor.specs.Walk.{Told, told, askM, leaveM}
 
 -- 4 calls for each row are enough
@@ -28,6 +28,35 @@ layout p o f m l = record { places = p; own = o; firsts = f; monitors = m; lette
 -- with no more monitors and letters than there is room for
 abbrev pub within : Layout → Layout
 within y = layout (y .places) (y .own) (y .firsts) (min (y .monitors) 32) (min (y .letters) 256)
+
+-- ---- marked letters, one after the other
+
+-- what f does for letter l, if it is marked
+abbrev pub ifMarked : (marks : List ℕ) → (f : ℕ → List ℕ → List ℕ) → (l : ℕ) → List ℕ → List ℕ
+ifMarked marks f l σ = cond (eqb (getD marks l 0) 0) σ (f l σ)
+
+-- for n letters from l on
+unfoldable pub eachMarked : (marks : List ℕ) → (f : ℕ → List ℕ → List ℕ) → (n l : ℕ) → List ℕ → List ℕ
+eachMarked marks f zero l σ = σ
+eachMarked marks f (suc n) l σ = eachMarked marks f n (suc l) (ifMarked marks f l σ)
+
+-- ---- threads that are busy are shut
+
+-- F17: a row is kept as blocked, and cannot be entered at this tick; not row 0, which is a monitor's own and stands for no thread, nor one that is not there
+abbrev pub shutRow : (r : ℕ) → List ℕ → List ℕ
+shutRow r M = cond (eqb r 0) M (cond (leb 1024 r) M (set M r 1))
+
+-- the thread that letter l goes on in
+abbrev pub shutFor : Given → (l : ℕ) → List ℕ → List ℕ
+shutFor g l M = shutRow (threadRowOf g l) M
+
+-- so many letters need be looked at, by what the tables say, and no more than there are
+abbrev pub threadedAmong : Given → (letters : ℕ) → ℕ
+threadedAmong g n = min (threaded g) n
+
+-- the memory at a tick's start: the rows of the threads that marked letters go on in are shut
+abbrev pub shutBusy : Given → (marks : List ℕ) → (letters : ℕ) → List ℕ → List ℕ
+shutBusy g marks n M = eachMarked marks (shutFor g) (threadedAmong g n) 0 M
 
 -- ---- every active position goes on
 
@@ -86,16 +115,15 @@ marksAfter n M = sets (replicate 288 0) 0 (take n (drop 1024 M))
 
 -- the writes of letter l, if it is marked
 abbrev pub writeIf : Given → (marks : List ℕ) → (l : ℕ) → List ℕ → List ℕ
-writeIf g marks l σ = cond (eqb (getD marks l 0) 0) σ (writeLetter g l σ)
+writeIf g marks l σ = ifMarked marks (writeLetter g) l σ
 
 -- F21: "the later monitor's stands; within a monitor that of the letter with the higher number": n letters from l on
-unfoldable pub writeMarked : Given → (marks : List ℕ) → (n l : ℕ) → List ℕ → List ℕ
-writeMarked g marks zero l σ = σ
-writeMarked g marks (suc n) l σ = writeMarked g marks n (suc l) (writeIf g marks l σ)
+abbrev pub writeMarked : Given → (marks : List ℕ) → (n l : ℕ) → List ℕ → List ℕ
+writeMarked g marks n l σ = eachMarked marks (writeLetter g) n l σ
 
 -- so many letters need be looked at, by what the tables say, and no more than there are
 abbrev pub writers : Given → (letters : ℕ) → ℕ
-writers g n = min (part0 (getD (g .letters) 768 0)) n
+writers g n = min (part1 (getD (g .letters) 768 0)) n
 
 -- ---- one tick
 
@@ -118,7 +146,7 @@ moveBy g y marks a =
     (move (a .monitor) (marksAfter 256 (a .memory)) (writeMarked g (marksAfter 256 (a .memory)) (writers g (y .letters)) 0 (g .values)))
 
 unfoldable pub stepWithin : Given → Layout → (marks : List ℕ) → Move
-stepWithin g y marks = moveBy g y marks (monitorsGo g y marks (y .monitors) 0 emptyMemory)
+stepWithin g y marks = moveBy g y marks (monitorsGo g y marks (y .monitors) 0 (shutBusy g marks (y .letters) emptyMemory))
 
 abbrev pub stepOf : Given → Layout → (marks : List ℕ) → Move
 stepOf g y marks = stepWithin g (within y) marks

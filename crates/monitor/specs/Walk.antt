@@ -11,7 +11,7 @@ use lib.ListN.{getD, set}
 use Rattle.words.specs.Words.{part0, part1, part2, part3}
 use Rattle.monitor.specs.Letters.{Given, letterMet}
 
--- The memory has, at r, what entering row r came to: 0 not known, 1 blocked, 2 passed (no letter was met, and the row can be left at once), 3 a letter was met,
+-- The memory has, at r, what entering row r came to: 0 not known, 1 blocked (or shut from the tick's start, Ticks.`shutBusy`), 2 passed (no letter was met, and the row can be left at once), 3 a letter was met,
 -- and is marked. At 1024 + l it has whether letter l is marked.
 
 -- what entering a row came to, and the memory after it

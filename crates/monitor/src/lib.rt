@@ -2,12 +2,15 @@
 // to. For loops, which must not copy a watch, `tables_of` lays its tables out once; `refused_by`, `peek` or `step` on them, and
 // `is_bad` are what a look or a take is made of.
 // What they answer is said for every watch, also one that no call ever gave (specs/Calls.antt, specs/Ticks.antt).
+mod busy;
 mod letters;
 mod marks;
 mod positions;
 mod tables;
+mod threads;
 mod walk;
 
+use busy::shut_marked;
 use letters::write_letter;
 use marks::first_marked;
 use marks::put_marks;
@@ -15,16 +18,17 @@ use positions::least;
 use positions::monitors_go;
 use rules::Watch;
 use tables::LETTERS;
-use tables::WRITERS;
+use tables::THREADS;
 pub use tables::tables_of;
-use words::part0;
+use words::part1;
+use words::part2;
 ghost use mathlib.Core.Path.{_≡_};
 ghost use mathlib.Core.Bool.{true};
 ghost use mathlib.Core.List.{List, [], _∷_};
 ghost use Prim.Native.Nat.{ℕ, suc, _≤_, _<_, min};
 ghost use Rattle.meaning.specs.Calls.{isStray};
 ghost use Rattle.monitor.specs.Letters.{given};
-ghost use Rattle.monitor.specs.Ticks.{layout, reached, monitorsGo, writeIf, writeMarked, move, stepOf, stuckAt};
+ghost use Rattle.monitor.specs.Ticks.{layout, reached, shutBusy, monitorsGo, writeIf, writeMarked, move, stepOf, stuckAt};
 ghost use Rattle.monitor.specs.Calls.{stateOf, withState, refusedBy, replyOf, watchAfter};
 ghost use Rattle.monitor.specs.Shown.{shownAnswer};
 
@@ -67,8 +71,8 @@ fn write_marked(
 
 // ---- one word
 
-// Every active position of every monitor, of 32 monitors and 256 letters at most: the first monitor that does not go on, or how
-// many there are. This is what a look and a take have in common.
+// Every active position of every monitor, of 32 monitors and 256 letters at most, with the threads shut that are busy: the first
+// monitor that does not go on, or how many there are. This is what a look and a take have in common.
 fn walk_on(
     monitors: usize,
     letters: usize,
@@ -81,10 +85,12 @@ fn walk_on(
     words: &[u64; 2],
     values: &[u64; 16],
 ) -> usize
-    ensures { λ r. ⌜ reached r (now (memory .exit)) ≡ monitorsGo (given (now (tables .entry)) (now (values .entry)) (now (words .entry))) (layout (now (places .entry)) (now (own .entry)) (now (firsts .entry)) (min monitors 32) (min letters 256)) (now (marks .entry)) (min monitors 32) 0 (now (memory .entry)) ⌝ }
+    ensures { λ r. ⌜ reached r (now (memory .exit)) ≡ monitorsGo (given (now (tables .entry)) (now (values .entry)) (now (words .entry))) (layout (now (places .entry)) (now (own .entry)) (now (firsts .entry)) (min monitors 32) (min letters 256)) (now (marks .entry)) (min monitors 32) 0 (shutBusy (given (now (tables .entry)) (now (values .entry)) (now (words .entry))) (now (marks .entry)) (min letters 256) (now (memory .entry))) ⌝ }
 {
     let count = least(monitors, 32);
     let end = least(letters, 256);
+    let threaded = least(part2(tables[LETTERS][THREADS]), end);
+    shut_marked(threaded, marks, tables, memory);
     monitors_go(
         count,
         end,
@@ -172,7 +178,7 @@ pub fn step<'a>(
         return monitor;
     }
     put_marks(&memory, marks);
-    let writers = least(part0(tables[LETTERS][WRITERS]), least(letters, 256));
+    let writers = least(part1(tables[LETTERS][THREADS]), least(letters, 256));
     write_marked(writers, &words, marks, tables, values);
     monitor
 }

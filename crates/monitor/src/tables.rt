@@ -1,11 +1,13 @@
 // The tables that a tick is lent, laid out once for many ticks (specs/Calls.antt): through one reference, so that the walk's calls
 // pass few arguments.
+use super::threads::threads_of;
 use rules::Watch;
+use words::quad;
 ghost use mathlib.Core.Path.{_≡_};
 ghost use Prim.Native.Nat.{_+_, _≤_};
 ghost use lib.ListN.{length};
 ghost use lib.Seq.{sets};
-ghost use Rattle.monitor.specs.Calls.{writersOf, tablesOf};
+ghost use Rattle.monitor.specs.Calls.{writersOf, threadedOf, tablesOf};
 
 // The rows, each in one word.
 pub(crate) const ROWS: usize = 0;
@@ -23,8 +25,9 @@ pub(crate) const WANTED: usize = 256;
 // From here on the wires that must be as before.
 pub(crate) const HELD: usize = 512;
 
-// How many letters there are up to the last that writes.
-pub(crate) const WRITERS: usize = 768;
+// From here on, in part 0, the row of the thread that each letter goes on in, or 0. In the first of these words also how many
+// letters there are up to the last that writes (part 1) and up to the last that goes on in a thread (part 2).
+pub(crate) const THREADS: usize = 768;
 
 // The two words of a tick: its own, and the one before.
 pub(crate) const WORD: usize = 0;
@@ -62,6 +65,21 @@ fn writers_of(links: &[u64; 1024], letters: usize) -> usize
     0
 }
 
+// Of 256 letters those up to the last that goes on in a thread.
+fn threaded_of(threads: &[u64; 256]) -> usize
+    ensures { λ r. ⌜ r ≡ threadedOf (now (threads .entry)) 256 ⌝ }
+{
+    let mut n: usize = 256;
+    while 0 < n {
+        let last = n - 1;
+        if threads[last] != 0 {
+            return n;
+        }
+        n = last;
+    }
+    0
+}
+
 // The tables of a watch.
 pub fn tables_of(watch: Watch) -> [[u64; 1024]; 4]
     ensures { λ r. ⌜ r ≡ tablesOf watch ⌝ }
@@ -73,7 +91,11 @@ pub fn tables_of(watch: Watch) -> [[u64; 1024]; 4]
     place(&watch.look, 0, &mut letters);
     place(&watch.want, WANTED, &mut letters);
     place(&watch.held, HELD, &mut letters);
-    letters[WRITERS] = writers_of(&links, 256) as u64;
+    let threads = threads_of(&rows, watch.rows);
+    place(&threads, THREADS, &mut letters);
+    let writers = writers_of(&links, 256);
+    let threaded = threaded_of(&threads);
+    letters[THREADS] = quad(threads[0] as usize, writers, threaded, 0);
     let mut tables = [[0u64; 1024]; 4];
     tables[ROWS] = rows;
     tables[LINKS] = links;

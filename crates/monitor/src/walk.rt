@@ -23,7 +23,7 @@ const STAR: usize = 3;
 const PIPE: usize = 4;
 
 // What entering a row came to: no letter is met; none, and the row can be left at once; one is met, and marked.
-const BLOCKED: u8 = 1;
+pub(crate) const BLOCKED: u8 = 1;
 
 const PASSED: u8 = 2;
 

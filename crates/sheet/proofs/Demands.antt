@@ -1,10 +1,11 @@
 -- The demands on the line watch, as statements, each with the theorem that proves it. Definitions stand in specs/, proofs where a citation names them; docs/PROOF.md says
 -- each statement in words. Assumes nothing.
 use mathlib.Core.Path.{_≡_, _∙_, sym, subst}
+use mathlib.Core.Bool.{Bool, true}
 use mathlib.Core.Logic.{_↔_}
 use mathlib.Core.List.{List, [], _∷_, _++_, map}
 use Prim.Native.Nat.{ℕ, _-_, _<_, _≤_}
-use lib.ListN.{length, replicate}
+use lib.ListN.{length, getD, replicate}
 use Rattle.refusals.specs.Numbers.{overlong}
 use Rattle.lexer.specs.Tokens.{Placed}
 use Rattle.trace.specs.Answer as records
@@ -37,11 +38,17 @@ use Rattle.meaning.specs.Acceptance.{Written, Acceptable, TurnedAway}
 use Rattle.meaning.specs.Table.{laidAll}
 use Rattle.meaning.specs.Numbered.{numberedFrom}
 use Rattle.meaning.specs.Calls.{Call, look, take, Reply, opening, standing, taken, takenReplies, AllRightly}
-use Rattle.meaning.specs.Fit.{start}
+use Rattle.meaning.specs.Lists.{_∈_}
+use Rattle.meaning.specs.Expression.{Exp}
+use Rattle.meaning.specs.Shape.{threads}
+use Rattle.meaning.specs.Fit.{Tick, Run, anything, runs, branches, required, fits, start}
 use Rattle.meaning.specs.Sheet.{sheet}
 use Rattle.meaning.proofs.Exactly as exactly
 use Rattle.meaning.proofs.Viable as viable
 use Rattle.meaning.proofs.Rows.{rows-no-more}
+use Rattle.meaning.proofs.Accept.{accept}
+use Rattle.meaning.proofs.Openings as openings
+use Rattle.meaning.proofs.Requires as requires
 use Rattle.meaning.proofs.Calls.{length-replies, replies-rightly}
 use Rattle.masks.proofs.passes.Statement as passes
 use Rattle.masks.proofs.passes.Met as passes-met
@@ -219,6 +226,17 @@ calls-rightly text o e cs =
 pub watch-held : (text : List ℕ) (o : Opened) → openText text ≡ value o → (cs : List Call)
     → Held (watchOf (value o)) (watchAfterAll (watchOf (value o)) cs) (standing (o .monitors) (o .initial) (o .wires) cs)
 watch-held = calls.watch-held
+
+-- A reply is judged by `Fit`, and that by F17: words fit a monitor exactly if some branch, of all that F6 to F13 allow, has at no tick two letters of one thread, a letter counted as
+-- often as it stands there.
+pub fits-exactly : (m : Exp) (ts : List Tick)
+    → (_≡_ {A = Bool} (fits m ts) true) ↔ ((r : Run) × (r ∈ branches m ts) × ((f : Exp) → f ∈ threads m → (k : ℕ) → required f (getD r k []) ≤ 1))
+fits-exactly = requires.fits-exactly
+
+-- So many starts of the thread require a letter there: each run of a start requires one letter a tick, for so many ticks from its first one on, and none behind them.
+pub start-requires : (text : List ℕ) (o : Opened) → openText text ≡ value o → (m : Exp) → m ∈ o .monitors → (f : Exp) → f ∈ threads m → (ts : List Tick) (r : Run) → r ∈ runs f anything ts
+    → (n : ℕ) × (n ≤ length ts) × (0 < length ts → 0 < n) × ((k : ℕ) → k < n → required f (getD r k []) ≡ 1) × ((k : ℕ) → n ≤ k → required f (getD r k []) ≡ 0)
+start-requires text o e m i = let (a, s) = openings.all-read text o e m i in requires.start-requires m (accept m a s)
 
 -- What comes of looks among takes. These follow from how calls go one behind the other (`repliesOf`, `watchAfterAll`); the code is bound to that by `look-entry` and
 -- `take-entry`, which have one `replyOf`, and by `look` having no watch to give back.

@@ -21,7 +21,7 @@ use Rattle.rules.specs.declared.Watch.{Watch}
 use Rattle.rules.proofs.Overlay.{sets-behind}
 use Rattle.monitor.specs.Calls.{stateOf, withState, tablesOf, givenOf, layoutOf, stepFrom, refusedBy, replyOf, watchAfter}
 use Rattle.monitor.specs.Letters.{Given, given}
-use Rattle.monitor.specs.Ticks.{Layout, within, Reached, Move, move, moveBy, marksAfter, writeMarked, writers, monitorsGo, emptyMemory, stepWithin, stepOf, stuckAt}
+use Rattle.monitor.specs.Ticks.{Layout, within, Reached, Move, move, moveBy, marksAfter, writeMarked, writers, monitorsGo, emptyMemory, shutBusy, stepWithin, stepOf, stuckAt}
 use Rattle.monitor.proofs.TickSteps.{lent-step, take-refused, take-bad, take-ok, few-ticks, one-tick}
 use Rattle.sheet.specs.Lines.{Run, run, Ran, ran, printing, onReply, onRead, okLine, badLine, runOn, runOver}
 use Rattle.sheet.specs.Items.{itemOf}
@@ -102,7 +102,7 @@ printing-twice p q x = ap (λ (l : List ℕ). ran l (x .after) (x .left) (x .end
 -- a step that ends at a bad monitor leaves marks and store values as they were
 bad-keeps : (g : Given) (y : Layout) (marks : List ℕ) (i : ℕ) (K σ : List ℕ) → move i K σ ≡ stepOf g y marks → i < within y .monitors → move i K σ ≡ move i marks (g .values)
 unfolding stepWithin
-bad-keeps g y marks i K σ e h = by (monitorsGo g (within y) marks (within y .monitors) 0 emptyMemory) e
+bad-keeps g y marks i K σ e h = by (monitorsGo g (within y) marks (within y .monitors) 0 (shutBusy g marks (within y .letters) emptyMemory)) e
   where
     by : (a : Reached) → move i K σ ≡ moveBy g (within y) marks a → move i K σ ≡ move i marks (g .values)
     by a e = cases (ltb (a .monitor) (within y .monitors)) refl e

@@ -1,7 +1,7 @@
 //! Random looks and takes through a program that answers cases, and through `second`: `calls N SEED PROGRAM [ARGUMENT..]`. Both must print the same. A case that
 //! differs is made small and saved under `target/fuzz/`, in a folder named by its seed. Where answers end early, the case without one differs, and the run ends.
 
-use fuzz::calls::{self, Met};
+use fuzz::calls::{self, Busy, Met};
 use fuzz::random::Random;
 use fuzz::{save, shrink, Case};
 use second::stage::{self, Entry, Said};
@@ -36,6 +36,7 @@ struct Tally {
     cases: u64,
     differences: u64,
     met: Met,
+    busy: Busy,
 }
 
 impl Tally {
@@ -47,6 +48,7 @@ impl Tally {
         let compared = entries.len().min(said.answers.len() + 1);
         for (i, entry) in entries.iter().enumerate().take(compared) {
             self.met.count(&entry.answer);
+            self.busy.count(&cases[i]);
             if said.answers.get(i) != Some(&entry.answer) {
                 self.differ(asked, seeds[i], &cases[i])?;
             }
@@ -74,6 +76,8 @@ impl Tally {
             println!("{n:8} {kind}");
         }
         println!("{:8} bad looks behind which a take was ok", self.met.went_on);
+        let Busy { looks, went_on, takes } = self.busy;
+        println!("{looks:8} looks bad for a busy thread alone, and {takes} takes; behind {went_on} of the looks a take was ok");
         println!("{} cases, {} differences", self.cases, self.differences);
     }
 }

@@ -29,4 +29,4 @@ step-spec =
     let a = c .before .before .before .before .before .before .before .before .before .before .before .before .before .before .before .before .before .before .args in
     let g = given (a .tables .now) (a .values .now) (a .word ∷ a .past ∷ []) in
     step-moves g (layout (a .places .now) (a .own .now) (a .firsts .now) (a .monitors) (a .letters)) (a .marks .now) _ _ (c .before .before .before .before .before .before .before .before .before .before .before .before .before .walk-on .ensures) _ (c .before .before .before .before .before .before .before .before .before .before .before .before .is-bad .ensures) (c .before .before .before .before .before .before .before .before .before .before .before .if1 .left)
-    _ _ (c .before .before .before .before .before .before .before .before .put-marks .ensures) _ _ _ (c .before .before .before .before .before .before .part0 .ensures) (c .before .before .before .before .before .least .ensures) (c .before .before .before .before .least2 .ensures) (c .write-marked .ensures _)))
+    _ _ (c .before .before .before .before .before .before .before .before .put-marks .ensures) _ _ _ (c .before .before .before .before .before .before .part1 .ensures) (c .before .before .before .before .before .least .ensures) (c .before .before .before .before .least2 .ensures) (c .write-marked .ensures _)))

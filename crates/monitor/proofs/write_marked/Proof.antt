@@ -6,8 +6,8 @@ use mathlib.Core.List.{List}
 use mathlib.Core.Path.{_≡_, _∙_}
 use native.Mathlib.Omega.{arith}
 use Rattle.monitor.proofs.Marked.{first-above}
-use Rattle.monitor.proofs.TickSteps.{written-first, written-more, written-all}
-use Rattle.monitor.specs.Letters.{given}
+use Rattle.monitor.proofs.TickSteps.{done-first, done-more, done-all}
+use Rattle.monitor.specs.Letters.{given, writeLetter}
 use Rattle.monitor.specs.Ticks.{writeMarked}
 use Rattle.monitor.proofs.write_marked.Statement.{statement}
 use Rattle.monitor.proofs.write_marked.Tie as tie
@@ -28,7 +28,7 @@ write-marked-spec =
     (λ c S.
     let a = c .before .args in
     let g = given (a .tables .now) S (a .words .now) in
-    written-first g (a .marks .now) (a .letters) (a .values .now) _ (c .first-marked .ensures))
+    done-first (a .marks .now) (writeLetter g) (a .letters) (a .values .now) _ (c .first-marked .ensures))
     (λ c κs. search needs)
     (λ c. search needs)
     (λ c κs. search needs)
@@ -41,8 +41,8 @@ write-marked-spec =
     let l = c .before .before .before .before .loop in
     let a = c .before .before .before .before .before .before .args in
     let g = given (a .tables .now) S (a .words .now) in
-    l .inv S ∙ written-more g (a .marks .now) (a .letters) (l .i) (l .values) _ (omega arith) (c .before .write-if .ensures S) _ (c .first-marked2 .ensures))
+    l .inv S ∙ done-more (a .marks .now) (writeLetter g) (a .letters) (l .i) (l .values) _ (omega arith) (c .before .write-if .ensures S) _ (c .first-marked2 .ensures))
     (λ c S.
     let l = c .before .loop in
     let a = c .before .before .before .args in
-    written-all (given (a .tables .now) S (a .words .now)) (a .marks .now) (a .letters) (l .i) (a .values .now) _ (omega arith) (l .inv S)))
+    done-all (a .marks .now) (writeLetter (given (a .tables .now) S (a .words .now))) (a .letters) (l .i) (a .values .now) _ (omega arith) (l .inv S)))

@@ -4,8 +4,10 @@ use borrow.Author.Needs.{needs}
 use mathlib.Core.Path.{_∙_, ap, ap₂}
 use mathlib.Core.List.{List, [], _∷_}
 use Prim.Native.Nat.{ℕ}
-use lib.ListN.{set}
+use lib.ListN.{getD, set}
 use lib.Seq.{sets}
+use Rattle.words.specs.Words.{quad}
+use Rattle.monitor.specs.Calls.{lettersBy}
 use Rattle.monitor.proofs.tables.tables_of.Statement.{statement}
 use Rattle.monitor.proofs.tables.tables_of.Tie as tie
 
@@ -17,13 +19,26 @@ tables-of-spec =
     (λ c κs. search needs)
     (λ c κs. search needs)
     (λ c κs. search needs)
+    (λ c κs. search needs)
+    (λ c κs. search needs)
+    (λ c κs. search needs)
+    (λ c. search needs)
+    (λ c κs. search needs)
     (λ c. search needs)
     (λ c. search needs)
     (λ c. search needs)
     (λ c. search needs)
     (λ c. search needs)
     (λ c.
-    let v = c .before .before .before .before .before .before .before .before .before .before .before .before .before .before .before .before .before .args .t1 in
-    let l = c .before .before .place3 .ensures
-    ∙ ap (λ (l : List ℕ). sets l 512 (v .held)) (c .before .before .before .before .before .before .place2 .ensures ∙ ap (λ (l : List ℕ). sets l 256 (v .want)) (c .before .before .before .before .before .before .before .before .before .before .place .ensures)) in
-    ap₂ (λ (l : List ℕ) (n : ℕ). v .table ∷ v .links ∷ v .numbers ∷ set l 768 n ∷ []) l (c .writers-of .ensures)))
+    let r = c .before .before .before .before .before in
+    let s = r .before .before .before .before .before in
+    let v = s .before .before .before .before .before .before .before .before .before .before .before .before .before .before .before .args .t1 in
+    let t = r .before .before .before .threads-of in
+    let l = r .place4 .ensures
+    ∙ ap (λ (l : List ℕ). sets l 768 (t .result))
+    (s .place3 .ensures
+    ∙ ap (λ (l : List ℕ). sets l 512 (v .held))
+    (s .before .before .before .before .place2 .ensures ∙ ap (λ (l : List ℕ). sets l 256 (v .want)) (s .before .before .before .before .before .before .before .before .place .ensures))) in
+    let n = c .quad .ensures ∙ ap₂ (λ (i j : ℕ). quad (getD (t .result) 0 0) i j 0) (c .before .before .before .writers-of .ensures) (c .before .threaded-of .ensures) in
+    ap₂ (λ (l : List ℕ) (n : ℕ). v .table ∷ v .links ∷ v .numbers ∷ set l 768 n ∷ []) l n
+    ∙ ap (λ (l : List ℕ). v .table ∷ v .links ∷ v .numbers ∷ lettersBy v l ∷ []) (t .ensures)))

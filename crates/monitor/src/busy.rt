@@ -1,0 +1,53 @@
+// Threads that are busy: a start of each requires a letter at this tick, and so none can be started (docs/REFERENCE.md, F17;
+// specs/Ticks.antt). The row of such a thread is kept as one that came to nothing when it was entered.
+use super::marks::first_marked;
+use super::tables::LETTERS;
+use super::tables::THREADS;
+use super::walk::BLOCKED;
+use words::part0;
+ghost use mathlib.Core.Path.{_≡_};
+ghost use mathlib.Core.List.{List};
+ghost use Prim.Native.Nat.{ℕ, _<_, _≤_};
+ghost use Rattle.monitor.specs.Letters.{given};
+ghost use Rattle.monitor.specs.Ticks.{ifMarked, eachMarked, shutRow, shutFor};
+
+// Keeps a row as blocked; nothing for row 0, which is a monitor's own, and for one that is not there.
+fn shut_row(row: usize, memory: &mut [u8; 1280])
+    ensures { λ _. ⌜ now (memory .exit) ≡ shutRow row (now (memory .entry)) ⌝ }
+{
+    if row == 0 {
+        return;
+    }
+    if 1024 <= row {
+        return;
+    }
+    memory[row] = BLOCKED;
+}
+
+// The thread that a letter goes on in, if the letter is marked.
+fn shut_if(letter: usize, marks: &[u8; 288], tables: &[[u64; 1024]; 4], memory: &mut [u8; 1280])
+    requires { ⌜ letter < 256 ⌝ }
+    ensures { λ _. ⌜ ((S W : List ℕ) → now (memory .exit) ≡ ifMarked (now (marks .entry)) (shutFor (given (now (tables .entry)) S W)) letter (now (memory .entry))) ⌝ }
+{
+    if marks[letter] == 0 {
+        return;
+    }
+    shut_row(part0(tables[LETTERS][THREADS + letter]), memory);
+}
+
+// The threads that the marked letters go on in.
+pub(crate) fn shut_marked(
+    letters: usize,
+    marks: &[u8; 288],
+    tables: &[[u64; 1024]; 4],
+    memory: &mut [u8; 1280],
+)
+    requires { ⌜ letters ≤ 256 ⌝ }
+    ensures { λ _. ⌜ ((S W : List ℕ) → now (memory .exit) ≡ eachMarked (now (marks .entry)) (shutFor (given (now (tables .entry)) S W)) letters 0 (now (memory .entry))) ⌝ }
+{
+    let mut i = first_marked(marks, 0, letters);
+    while i < letters {
+        shut_if(i, marks, tables, memory);
+        i = first_marked(marks, i + 1, letters);
+    }
+}

@@ -1,0 +1,323 @@
+//! A model of the watch, for texts that `second` accepts: it goes over the parts of each monitor, from letter to letter, with what has to come behind each
+//! letter that was met. It has nothing of `second`, and says more of a bad word: whether every letter that is required is met, so that the word is bad
+//! only because two starts of one thread both require one.
+//!
+//! An accepted text has no forks, so that a word leads on from a letter in one way at most; the model takes the first that it finds.
+
+use crate::opened::{Letter, Opened, Part};
+use std::rc::Rc;
+
+/// What has to come behind a letter.
+enum Rest {
+    /// Nothing: a start of this thread is over.
+    Over(usize),
+    /// The monitor again.
+    Again(usize),
+    Then(usize, Rc<Rest>),
+    /// A start of this thread, beside what follows the `@`.
+    Start(usize, Rc<Rest>),
+}
+
+impl Rest {
+    /// The thread of whose start this is the rest; none for a monitor's own.
+    fn thread(&self) -> Option<usize> {
+        match self {
+            Rest::Over(thread) => Some(*thread),
+            Rest::Again(_) => None,
+            Rest::Then(_, rest) | Rest::Start(_, rest) => rest.thread(),
+        }
+    }
+
+    /// The thread of a start that requires no letter any more, though it may start others.
+    fn over(&self) -> Option<usize> {
+        match self {
+            Rest::Over(thread) => Some(*thread),
+            Rest::Start(_, rest) => rest.over(),
+            Rest::Again(_) | Rest::Then(..) => None,
+        }
+    }
+}
+
+/// A letter that was met, and what has to come behind it.
+struct Met {
+    letter: usize,
+    rest: Rc<Rest>,
+}
+
+/// What a word comes to. Bad names the lowest monitor that does not fit.
+#[derive(Clone, Copy, Debug, PartialEq, Eq)]
+pub enum Said {
+    Ok,
+    Bad(usize),
+    /// Bad, though all letters are met that are required: a thread is busy.
+    Busy(usize),
+}
+
+/// A watch at work. It knows no refusals: they are left to who hands the words over.
+pub struct Model<'o> {
+    opened: &'o Opened,
+    stores: Vec<u64>,
+    before: u64,
+    /// For each monitor what has to come, for itself and for each start.
+    rests: Vec<Vec<Rc<Rest>>>,
+    handed_over: u64,
+}
+
+impl<'o> Model<'o> {
+    pub fn new(opened: &'o Opened) -> Self {
+        let rests = opened.monitors.iter().map(|&monitor| vec![Rc::new(Rest::Again(monitor))]).collect();
+        Model { opened, stores: opened.stores.clone(), before: 0, rests, handed_over: 0 }
+    }
+
+    /// How many starts so far had their first letter right behind the last letter of another start of the same thread.
+    pub fn handed_over(&self) -> u64 {
+        self.handed_over
+    }
+
+    /// What a take of the word would come to.
+    pub fn look(&self, word: u64) -> Said {
+        said(&self.cross(word))
+    }
+
+    /// Takes a word, and moves on if it is ok.
+    pub fn take(&mut self, word: u64) -> Said {
+        let crossed = self.cross(word);
+        let said = said(&crossed);
+        if said == Said::Ok {
+            self.move_on(word, &crossed.into_iter().flatten().collect::<Vec<_>>());
+        }
+        said
+    }
+
+    fn move_on(&mut self, word: u64, met: &[Vec<Met>]) {
+        for (before, after) in self.rests.iter_mut().zip(met) {
+            self.handed_over += handed_over(before, after);
+            *before = after.iter().map(|met| met.rest.clone()).collect();
+        }
+        self.write(word, met);
+        self.before = word;
+    }
+
+    /// Carries out the writes of the letters met, in the order of their numbers.
+    fn write(&mut self, word: u64, met: &[Vec<Met>]) {
+        let mut letters: Vec<usize> = met.iter().flatten().map(|met| met.letter).collect();
+        letters.sort_unstable();
+        for letter in letters {
+            for (store, value) in &self.opened.letters[letter].writes {
+                self.stores[*store] = value.of(word);
+            }
+        }
+    }
+
+    /// The letters that a word meets in each monitor, or none where one is missing that is required.
+    fn cross(&self, word: u64) -> Vec<Option<Vec<Met>>> {
+        let step = Step { model: self, word };
+        let monitors = self.rests.iter().map(|rests| {
+            let mut met = Vec::new();
+            rests.iter().all(|rest| step.go(rest, &mut met)).then_some(met)
+        });
+        monitors.collect()
+    }
+}
+
+fn said(crossed: &[Option<Vec<Met>>]) -> Said {
+    let does_not_fit = |met: &Option<Vec<Met>>| met.as_ref().is_none_or(|met| is_busy(met));
+    match crossed.iter().position(does_not_fit) {
+        None => Said::Ok,
+        Some(monitor) if crossed.iter().all(Option::is_some) => Said::Busy(monitor),
+        Some(monitor) => Said::Bad(monitor),
+    }
+}
+
+/// Whether two of the letters are of one thread, and so of two starts of it.
+fn is_busy(met: &[Met]) -> bool {
+    let mut threads: Vec<usize> = met.iter().filter_map(|met| met.rest.thread()).collect();
+    threads.sort_unstable();
+    threads.windows(2).any(|two| two[0] == two[1])
+}
+
+/// How many threads have a letter though a start of theirs is over.
+fn handed_over(before: &[Rc<Rest>], after: &[Met]) -> u64 {
+    let over: Vec<usize> = before.iter().filter_map(|rest| rest.over()).collect();
+    after.iter().filter_map(|met| met.rest.thread()).filter(|thread| over.contains(thread)).count() as u64
+}
+
+/// A tick with a word.
+struct Step<'m, 'o> {
+    model: &'m Model<'o>,
+    word: u64,
+}
+
+impl Step<'_, '_> {
+    fn meets(&self, letter: &Letter) -> bool {
+        let wires = (self.word ^ letter.want) & letter.look == 0 && (self.word ^ self.model.before) & letter.held == 0;
+        wires && letter.tests.iter().all(|(store, value)| self.model.stores[*store] == value.of(self.word))
+    }
+
+    /// Whether what has to come can go on at this tick; adds the letters it meets.
+    fn go(&self, rest: &Rc<Rest>, met: &mut Vec<Met>) -> bool {
+        match &**rest {
+            Rest::Over(_) => true,
+            Rest::Again(monitor) => self.enter(*monitor, rest, met),
+            Rest::Then(part, then) => self.enter(*part, then, met) || self.model.opened.hollow[*part] && self.go(then, met),
+            Rest::Start(thread, then) => self.enter(*thread, &Rc::new(Rest::Over(*thread)), met) && self.go(then, met),
+        }
+    }
+
+    /// Whether a part can have this tick as its first; adds the letter that it meets.
+    fn enter(&self, part: usize, then: &Rc<Rest>, met: &mut Vec<Met>) -> bool {
+        let opened = self.model.opened;
+        match opened.parts[part] {
+            Part::Letter(letter) => {
+                let meets = self.meets(&opened.letters[letter]);
+                if meets {
+                    met.push(Met { letter, rest: then.clone() });
+                }
+                meets
+            }
+            Part::Sequence(e, f) => self.enter(e, &Rc::new(Rest::Then(f, then.clone())), met) || opened.hollow[e] && self.enter(f, then, met),
+            Part::Choice(e, f) => self.enter(e, then, met) || self.enter(f, then, met),
+            Part::Star(body) => self.enter(body, &Rc::new(Rest::Then(part, then.clone())), met),
+            Part::Pipe(left, thread) => self.enter(left, &Rc::new(Rest::Start(thread, then.clone())), met),
+        }
+    }
+}
+
+#[cfg(test)]
+mod tests {
+    use super::*;
+    use crate::compare::words;
+    use crate::opened::open;
+    use crate::random::Random;
+    use crate::{grow, threads};
+    use second::{Answer, Watch};
+
+    const OK: Said = Said::Ok;
+    const BAD: Said = Said::Bad(0);
+    const BUSY: Said = Said::Busy(0);
+
+    /// What the last word of a row comes to; those before it are ok.
+    fn last(body: &str, words: &[u64]) -> Said {
+        let opened = open(&format!("input a; input b; input c; input d; t -> a @ (b, c); p -> {body}; monitor p;"));
+        let mut model = Model::new(&opened);
+        let (last, before) = words.split_last().expect("there is a word");
+        before.iter().for_each(|&word| assert_eq!(model.take(word), OK, "{body}: {word}"));
+        model.take(*last)
+    }
+
+    /// Rows of words that end at a busy thread or just not, each a reading that is easily missed.
+    #[test]
+    fn starts_that_meet_and_starts_that_do_not() {
+        let rows: &[(&str, &[u64], Said)] = &[
+            // two letters at once, one of them missing, and no letter at all
+            ("t", &[1, 3, 7], BUSY),
+            ("t", &[1, 3, 5], BAD),
+            ("t", &[1, 3, 0], BAD),
+            ("t || !a", &[1, 2, 5, 2, 4], OK),
+            // one letter is over before the next start
+            ("a @ b", &[1, 3, 3, 3], OK),
+            // copies, and a star around one
+            ("t, t || !a", &[1, 3, 6, 4], OK),
+            ("(t)*, !a", &[1, 3, 6], BUSY),
+            // two starts in the same place
+            ("a @ ((b & !c)*, c) || !a", &[1, 3, 2], BUSY),
+            ("a @ ((b & !c)*, c) || !a", &[1, 5, 2], OK),
+            // an inner thread of two outer starts; an outer start that is over while the inner one runs
+            ("a @ (b @ (c, d)) || !a", &[1, 3, 6], OK),
+            ("a @ (b @ (c, d)) || !a", &[1, 3, 6, 12], BUSY),
+            // a left operand that may go on
+            ("(a, b*) @ (c, c, c), !b", &[1, 4, 5, 6], OK),
+            ("(a, b*) @ (c, c, c), !b", &[1, 4, 5, 4], BUSY),
+            ("(a, ((b & !c)* || (c & !b)*)) @ (d, d), !a & !b & !c", &[1, 8, 9], OK),
+        ];
+        for (body, words, said) in rows {
+            assert_eq!(last(body, words), *said, "{body}: {words:?}");
+        }
+    }
+
+    #[test]
+    fn the_lowest_monitor_is_named_and_a_missing_letter_comes_before_a_busy_thread() {
+        let opened = open("input a; input b; t -> a @ (a, a); p -> b || !b; q -> b; monitor p, t, q;");
+        let mut model = Model::new(&opened);
+        assert_eq!([model.take(3), model.take(3)], [OK, OK]);
+        assert_eq!((model.look(3), model.look(1), model.look(2)), (Said::Busy(1), Said::Bad(1), Said::Bad(1)));
+    }
+
+    /// What `second` says of the words of grown cases, the model says too.
+    #[test]
+    fn the_model_answers_as_second_does() {
+        let mut compared = 0;
+        for case in (0..10_000).map(|seed| grow::case(&mut Random::new(seed))) {
+            let Ok(program) = second::open(&case.text) else {
+                continue;
+            };
+            let opened = open(std::str::from_utf8(&case.text).expect("it is accepted"));
+            let (mut watch, mut model) = (Watch::new(&program), Model::new(&opened));
+            for word in words(&case.trace) {
+                let answer = match watch.take(word) {
+                    Answer::Refused(_) => break,
+                    Answer::Ok => OK,
+                    Answer::Bad(monitor) => Said::Bad(monitor),
+                };
+                let said = match model.take(word) {
+                    Said::Busy(monitor) => Said::Bad(monitor),
+                    said => said,
+                };
+                assert_eq!(said, answer, "at tick {} of {}", watch.ticks(), String::from_utf8_lossy(&case.text));
+                assert_eq!(model.stores, watch.stores());
+                compared += 1;
+            }
+        }
+        assert!(compared > 50_000, "{compared}");
+    }
+
+    /// How two starts of one thread meet at a word.
+    #[derive(Debug, Default)]
+    struct Meetings {
+        /// The older one has its last letter there.
+        at_the_last_letter: u64,
+        /// Both require the same letter.
+        in_the_same_place: u64,
+        of_an_inner_thread: u64,
+    }
+
+    impl Meetings {
+        fn count(&mut self, opened: &Opened, met: &[Met]) {
+            for (i, one) in met.iter().enumerate() {
+                let thread = one.rest.thread();
+                for other in met[i + 1..].iter().filter(|other| thread.is_some() && other.rest.thread() == thread) {
+                    self.at_the_last_letter += u64::from(one.rest.over().is_some() != other.rest.over().is_some());
+                    self.in_the_same_place += u64::from(one.letter == other.letter);
+                    self.of_an_inner_thread += u64::from(is_inner(opened, thread.expect("it is one")));
+                }
+            }
+        }
+    }
+
+    /// Whether a thread stands inside another. A part stands behind its operands, and the left of these before the right.
+    fn is_inner(opened: &Opened, thread: usize) -> bool {
+        let mut outer = opened.parts.iter().filter_map(|part| if let Part::Pipe(left, right) = part { Some(*left + 1..*right) } else { None });
+        outer.any(|parts| parts.contains(&thread))
+    }
+
+    #[test]
+    fn starts_meet_in_many_ways() {
+        let mut meetings = Meetings::default();
+        for case in (0..10_000).map(|seed| grow::case(&mut Random::new(seed))) {
+            let Some(opened) = second::open(&case.text).ok().and_then(|_| threads::opened(&case.text)) else {
+                continue;
+            };
+            let mut model = Model::new(&opened);
+            for word in words(&case.trace) {
+                let crossed = model.cross(word);
+                if matches!(said(&crossed), Said::Busy(_)) {
+                    crossed.iter().flatten().for_each(|met| meetings.count(&opened, met));
+                }
+                if model.take(word) != OK {
+                    break;
+                }
+            }
+        }
+        assert!(meetings.at_the_last_letter > 100 && meetings.in_the_same_place > 50 && meetings.of_an_inner_thread > 50, "{meetings:?}");
+    }
+}
