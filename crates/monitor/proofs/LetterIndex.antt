@@ -20,7 +20,7 @@ use Rattle.rules.specs.declared.Watch.{Watch}
 use Rattle.rules.proofs.Overlay.{two-long}
 use Rattle.rules.proofs.Placing.{letters-long}
 use Rattle.monitor.specs.Threads.{threadsOf}
-use Rattle.monitor.specs.Calls.{lettersOf, lettersBy, writersOf, threadedOf}
+use Rattle.monitor.specs.Calls.{lettersOf, lettersBy, writersOf, threadedOf, unthreadedOf}
 use Rattle.monitor.proofs.Stored.{stands-at, front, rear, before, stored-from, stored, stored-at}
 use Rattle.monitor.proofs.Numbered.{InOrder, numbers-below}
 
@@ -82,7 +82,7 @@ four-slots f x =
     omega (arith, length-map (slotsOf x) f, length-append (twoSlots (testsOn [] (x .literals))) (twoSlots (writesOn [] (x .writes))), two-long (testsOn [] (x .literals)), two-long (writesOn [] (x .writes)))
 
 -- what a letter looks at, what it wants and what it holds, in one list
-module _ (ls ws hs ts : List ℕ) (n m i : ℕ) (h : i < 256) where
+module _ (ls ws hs ts : List ℕ) (n m k i : ℕ) (h : i < 256) where
   abbrev each-one : List ℕ → List ℕ
   each-one xs = sets (replicate 256 0) 0 xs
 
@@ -103,7 +103,7 @@ module _ (ls ws hs ts : List ℕ) (n m i : ℕ) (h : i < 256) where
   four = sets three 768 ts
 
   -- below the threads
-  lower : (j : ℕ) → j < 768 → getD (lettersOf (each-one ls) (each-one ws) (each-one hs) ts n m) j 0 ≡ getD three j 0
+  lower : (j : ℕ) → j < 768 → getD (lettersOf (each-one ls) (each-one ws) (each-one hs) ts n m k) j 0 ≡ getD three j 0
   lower j l = getD-set-other four 768 j _ 0 (λ e. omega (arith, e, l)) ∙ before three 768 j ts l
 
   one-long : length one ≡ 1024
@@ -117,17 +117,17 @@ module _ (ls ws hs ts : List ℕ) (n m i : ℕ) (h : i < 256) where
   part L at xs l =
       stands-at (λ j. getD (sets L at (each-one xs)) j 0) 0 at (each-one xs) i (omega (arith, long xs)) (stored-from L at (each-one xs) (omega (arith, long xs)))
 
-  looked-at : getD (lettersOf (each-one ls) (each-one ws) (each-one hs) ts n m) i 0 ≡ getD (each-one ls) i 0
+  looked-at : getD (lettersOf (each-one ls) (each-one ws) (each-one hs) ts n m k) i 0 ≡ getD (each-one ls) i 0
   looked-at =
       lower i (omega (arith, h)) ∙ before two 512 i (each-one hs) (omega (arith, h)) ∙ before one 256 i (each-one ws) h
       ∙ stored-at 1024 (each-one ls) i (omega (arith, long ls)) (omega (arith, long ls))
 
-  wanted : getD (lettersOf (each-one ls) (each-one ws) (each-one hs) ts n m) (256 + i) 0 ≡ getD (each-one ws) i 0
+  wanted : getD (lettersOf (each-one ls) (each-one ws) (each-one hs) ts n m k) (256 + i) 0 ≡ getD (each-one ws) i 0
   wanted =
       lower (256 + i) (omega (arith, h)) ∙ before two 512 (256 + i) (each-one hs) (omega (arith, h))
       ∙ part one 256 ws (omega (arith, one-long))
 
-  held-at : getD (lettersOf (each-one ls) (each-one ws) (each-one hs) ts n m) (512 + i) 0 ≡ getD (each-one hs) i 0
+  held-at : getD (lettersOf (each-one ls) (each-one ws) (each-one hs) ts n m k) (512 + i) 0 ≡ getD (each-one hs) i 0
   held-at = lower (512 + i) (omega (arith, h)) ∙ part two 512 hs (omega (arith, two-longer))
 
 -- a letter's numbers stand at its own number
@@ -163,9 +163,9 @@ all-letters gs o few r l m w vs e i x j =
     let helds = map (λ (y : Letter). masks.held (y .literals)) (each gs letters) in
     record {
       below = low;
-      look = looked-at looks wants helds t (writersOf (v .links) 256) (threadedOf t 256) (x .number) low ∙ single (each gs letters) c n x k (λ y. masks.look (y .literals));
-      want = wanted looks wants helds t (writersOf (v .links) 256) (threadedOf t 256) (x .number) low ∙ single (each gs letters) c n x k (λ y. masks.want (y .literals));
-      held = held-at looks wants helds t (writersOf (v .links) 256) (threadedOf t 256) (x .number) low ∙ single (each gs letters) c n x k (λ y. masks.held (y .literals));
+      look = looked-at looks wants helds t (writersOf (v .links) 256) (threadedOf t 256) (unthreadedOf t 256) (x .number) low ∙ single (each gs letters) c n x k (λ y. masks.look (y .literals));
+      want = wanted looks wants helds t (writersOf (v .links) 256) (threadedOf t 256) (unthreadedOf t 256) (x .number) low ∙ single (each gs letters) c n x k (λ y. masks.want (y .literals));
+      held = held-at looks wants helds t (writersOf (v .links) 256) (threadedOf t 256) (unthreadedOf t 256) (x .number) low ∙ single (each gs letters) c n x k (λ y. masks.held (y .literals));
       links = slots (each gs letters) c n x k slotWord;
       numbers = slots (each gs letters) c n x k slotNumber;
     }

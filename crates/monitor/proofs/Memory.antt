@@ -4,7 +4,7 @@ use mathlib.Core.List.{List, [], _∷_, _++_}
 use mathlib.Core.Option.{Option, none, some}
 use mathlib.Core.Path.{_≡_, refl, sym, ap, _∙_, subst}
 use mathlib.Core.Logic.{_⊎_, inl, inr, ⊎-elim}
-use Prim.Native.Nat.{ℕ, zero, suc, _+_, _<_, _≤_}
+use Prim.Native.Nat.{ℕ, zero, suc, _+_, _-_, _<_, _≤_}
 use native.Mathlib.Omega.{arith}
 use lib.Dec.{T, T-not, eqb, leb}
 use native.Mathlib.Decide.{ℕ-discrete}
@@ -18,7 +18,7 @@ use Rattle.meaning.specs.Table.{Table}
 use Rattle.meaning.specs.RowWalk.{enterRow}
 use Rattle.meaning.proofs.ListLaws.{no-∈, append-∈, ∈-left, ∈-right}
 use Rattle.monitor.specs.Walk.{Came, Told, told}
-use Rattle.monitor.specs.Letters.{Given, threadRowOf}
+use Rattle.monitor.specs.Letters.{Given, threadRowOf, unthreaded}
 use Rattle.monitor.specs.Ticks.{andThen, emptyMemory, ifMarked, eachMarked, shutRow, shutFor, threadedAmong, shutBusy}
 use Rattle.monitor.proofs.Padded.{zeros-at}
 
@@ -120,7 +120,7 @@ module _ (g : Given) (K : List ℕ) where
   shut-all (suc n) l M b = shut-all n (suc l) (ifMarked K (shutFor g) l M) (shut-one l M b)
 
   pub begun : (n : ℕ) → Begun (shutBusy g K n emptyMemory)
-  begun n = shut-all (threadedAmong g n) 0 emptyMemory empty-begun
+  begun n = shut-all (threadedAmong g n - unthreaded g) (unthreaded g) emptyMemory empty-begun
 
 -- what is blocked is kept as that
 enter-shut : (shut : ℕ → Bool) (N : ℕ) (R : Table) (r : ℕ) (t : Tick) → shut r ≡ true → enterRow shut N R r t ≡ blocked

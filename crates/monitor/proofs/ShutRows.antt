@@ -3,7 +3,7 @@ use mathlib.Core.Path.{_≡_, refl, sym, ap, _∙_, subst}
 use mathlib.Core.Bool.{Bool, true, false, not, cond}
 use mathlib.Core.List.{List, [], _∷_}
 use mathlib.Core.Logic.{_⊎_, inl, inr, ⊎-elim}
-use Prim.Native.Nat.{ℕ, zero, suc, _+_, _<_, _≤_, min}
+use Prim.Native.Nat.{ℕ, zero, suc, _+_, _-_, _<_, _≤_, min}
 use native.Mathlib.Omega.{arith}
 use lib.Dec.{T, T-not, eqb, leb}
 use borrow.Author.Tests.{eq-eqb, ne-eqb, eqb-true, eqb-false, leb-true, leb-false, ltb-true, ltb-false}
@@ -27,7 +27,7 @@ use Rattle.meaning.proofs.Shifted.{shiftPositions, closed-renumbered}
 use Rattle.meaning.proofs.Rows.{Stands, laid-length}
 use Rattle.rules.specs.Watches.{watchOf}
 use Rattle.rules.proofs.Placing.{letters-long}
-use Rattle.monitor.specs.Letters.{Given, threadRowOf, threaded}
+use Rattle.monitor.specs.Letters.{Given, threadRowOf, threaded, unthreaded}
 use Rattle.monitor.specs.Threads.{threadRows, threadRowsAll}
 use Rattle.monitor.specs.Ticks.{emptyMemory, ifMarked, eachMarked, shutRow, shutFor, shutBusy}
 use Rattle.monitor.specs.Calls.{givenOf}
@@ -39,7 +39,7 @@ use Rattle.monitor.proofs.Moves.{ordered-counted, MarksAll}
 use Rattle.monitor.proofs.Monitors.{active, AllShut, counted-has}
 use Rattle.monitor.proofs.Numbered.{programOf, InOrder, numbered-in-order}
 use Rattle.monitor.proofs.Shut.{goes, threads-long, ThreadRow, Inner, own-row, inner-row, shuts}
-use Rattle.monitor.proofs.ThreadRows.{all-threads-long, thread-rows-right, threaded-enough}
+use Rattle.monitor.proofs.ThreadRows.{all-threads-long, thread-rows-right, threaded-enough, unthreaded-before}
 use Rattle.monitor.proofs.Program.{Counted, tableOf, program-rows, program-letters}
 
 -- ---- marked letters, one after the other
@@ -283,12 +283,16 @@ module _ (o : Opened) (c : Counted o) (σ w : List ℕ) (K : List ℕ) where
   shut-to v t = ⊎-elim
       (λ h. absurd (shut-not emptyMemory v h (zeros-at 1280 v)))
       (λ (i, x, y, m). (i, omega (arith, y), m .0, m .1, m .2))
-      (all-from g K _ 0 emptyMemory v empty-begun t)
+      (all-from g K _ (unthreaded g) emptyMemory v empty-begun t)
 
   shut-of : (i v : ℕ) → i < o .letterCount → (getD K i 0 ≡ 0 → ⊥) → threadRowOf g i ≡ v → (v ≡ 0 → ⊥) → v < 1024 → T (shutIn begin v)
-  shut-of i v h k p z l = all-come g K _ 0 emptyMemory v i empty-begun (omega arith) (by (ltb i (threaded g)) refl) (k, p, z) l
+  shut-of i v h k p z l = all-come g K _ (unthreaded g) emptyMemory v i empty-begun (first (ltb i (unthreaded g)) refl) (by (ltb i (threaded g)) refl) (k, p, z) l
     where
-      by : (b : Bool) → ltb i (threaded g) ≡ b → i < 0 + min (threaded g) (o .letterCount)
+      first : (b : Bool) → ltb i (unthreaded g) ≡ b → unthreaded g ≤ i
+      first true e = absurd (z (sym p ∙ unthreaded-before (watchOf (value o)) σ w i (ltb-true i (unthreaded g) e)))
+      first false e = ltb-false i (unthreaded g) e
+
+      by : (b : Bool) → ltb i (threaded g) ≡ b → i < unthreaded g + (min (threaded g) (o .letterCount) - unthreaded g)
       by true e = let x = ltb-true i (threaded g) e in omega (arith, x, h)
       by false e =
           let x = ltb-false i (threaded g) e in

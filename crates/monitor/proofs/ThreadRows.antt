@@ -24,9 +24,10 @@ use Rattle.rules.specs.Laying.{kindCode, leftCode}
 use Rattle.rules.specs.Watches.{watchOf}
 use Rattle.rules.specs.declared.Watch.{Watch}
 use Rattle.rules.proofs.Overlay.{sets-behind}
-use Rattle.monitor.specs.Letters.{threadRowOf, threaded}
+use Rattle.monitor.specs.Letters.{threadRowOf, threaded, unthreaded}
+use Rattle.monitor.specs.Ticks.{firstMarked}
 use Rattle.monitor.specs.Threads.{threadRows, threadRowsAll, goingOn, operandNumber, upOf, rowNumber, rowNumbers, threadOf, threadsFrom}
-use Rattle.monitor.specs.Calls.{writersOf, threadedOf, givenOf}
+use Rattle.monitor.specs.Calls.{writersOf, threadedOf, unthreadedOf, givenOf}
 use Rattle.monitor.proofs.Stored.{stands-at, stands-self, front, rear, each-append, each-at, stored-from, stored-at}
 use Rattle.monitor.proofs.Numbered.{programOf, InOrder}
 use Rattle.monitor.proofs.RowWords.{wordOf, laid-up}
@@ -275,11 +276,11 @@ quad-low a b c d = omega arith
 
 module _ (v : Watch) (σ w : List ℕ) where
   thread-word : (i : ℕ) → i < 256 → threadRowOf (givenOf v σ w) i ≡ part0 (getD (threadsIn v) i 0)
-  thread-word zero h = ap part0 (counts-are v σ w) ∙ quad-low (getD (threadsIn v) 0 0) (writersOf (v .links) 256) (threadedOf (threadsIn v) 256) 0
+  thread-word zero h = ap part0 (counts-are v σ w) ∙ quad-low (getD (threadsIn v) 0 0) (writersOf (v .links) 256) (threadedOf (threadsIn v) 256) (unthreadedOf (threadsIn v) 256)
   thread-word (suc i) h =
       let l = threads-many (v .table) (min (v .rows) 1024) in
       ap part0
-      (getD-set-other (sets (beforeThreads v) 768 (threadsIn v)) 768 (768 + suc i) (quad (getD (threadsIn v) 0 0) (writersOf (v .links) 256) (threadedOf (threadsIn v) 256) 0) 0
+      (getD-set-other (sets (beforeThreads v) 768 (threadsIn v)) 768 (768 + suc i) (quad (getD (threadsIn v) 0 0) (writersOf (v .links) 256) (threadedOf (threadsIn v) 256) (unthreadedOf (threadsIn v) 256)) 0
       (λ e. omega (arith, e))
       ∙ stands-at (λ j. getD (sets (beforeThreads v) 768 (threadsIn v)) j 0) 0 768 (threadsIn v) (suc i) (omega (arith, l, h))
       (stored-from (beforeThreads v) 768 (threadsIn v) (omega (arith, l, before-long v))))
@@ -288,10 +289,38 @@ module _ (v : Watch) (σ w : List ℕ) where
   pub threaded-enough : ((l : ℕ) → threaded (givenOf v σ w) ≤ l → l < 256 → threadRowOf (givenOf v σ w) l ≡ 0) × (threaded (givenOf v σ w) ≤ 256)
   threaded-enough =
       let few = up-to-below (λ i. eqb (getD (threadsIn v) i 0) 0) 256 in
-      let e = ap part2 (counts-are v σ w) ∙ quad-2 (getD (threadsIn v) 0 0) (writersOf (v .links) 256) (threadedOf (threadsIn v) 256) 0 (omega (arith, few)) in (
+      let e = ap part2 (counts-are v σ w) ∙ quad-2 (getD (threadsIn v) 0 0) (writersOf (v .links) 256) (threadedOf (threadsIn v) 256) (unthreadedOf (threadsIn v) 256) (omega (arith, few)) in (
         λ l h k. thread-word l k ∙ ap part0 (eqb-true (getD (threadsIn v) l 0) 0 (beyond (λ i. eqb (getD (threadsIn v) i 0) 0) 256 l (omega (arith, e, h)) k)),
         omega (arith, e, few),
       )
+
+-- a letter before the first that is marked is not
+before-first : (K : List ℕ) (n l i : ℕ) → l ≤ i → i < firstMarked K n l → getD K i 0 ≡ 0
+unfolding firstMarked
+before-first K zero l i x y = absurd (omega (arith, x, y))
+before-first K (suc n) l i x y = by (eqb (getD K l 0) 0) refl (eqb i l) refl y (λ z w. before-first K n (suc l) i z w)
+  where
+    by : (b : Bool) → eqb (getD K l 0) 0 ≡ b → (c : Bool) → eqb i l ≡ c → i < cond b (firstMarked K n (suc l)) l → (suc l ≤ i → i < firstMarked K n (suc l) → getD K i 0 ≡ 0) → getD K i 0 ≡ 0
+    by true e true q w more = ap (λ (z : ℕ). getD K z 0) (eqb-true i l q) ∙ eqb-true (getD K l 0) 0 e
+    by true e false q w more = more (let s = eqb-false i l q in omega (arith, x, s)) w
+    by false e c q w more = absurd (omega (arith, x, w))
+
+first-low : (K : List ℕ) (n l : ℕ) → firstMarked K n l ≤ l + n
+unfolding firstMarked
+first-low K zero l = omega arith
+first-low K (suc n) l = by (eqb (getD K l 0) 0) (first-low K n (suc l))
+  where
+    by : (b : Bool) → firstMarked K n (suc l) ≤ suc l + n → cond b (firstMarked K n (suc l)) l ≤ l + suc n
+    by true h = omega (arith, h)
+    by false h = omega arith
+
+-- nor has a letter before the first that is counted
+module _ (v : Watch) (σ w : List ℕ) where
+  pub unthreaded-before : (l : ℕ) → l < unthreaded (givenOf v σ w) → threadRowOf (givenOf v σ w) l ≡ 0
+  unthreaded-before l h =
+      let few = first-low (threadsIn v) 256 0 in
+      let e = ap part3 (counts-are v σ w) ∙ quad-3 (getD (threadsIn v) 0 0) (writersOf (v .links) 256) (threadedOf (threadsIn v) 256) (unthreadedOf (threadsIn v) 256) (omega (arith, few)) in
+      thread-word v σ w l (omega (arith, h, e, few)) ∙ ap part0 (before-first (threadsIn v) 256 0 l (omega arith) (omega (arith, h, e)))
 
 module _ (o : Opened) (c : Counted o) where
   threads-stored : threadsIn (watchOf (value o)) ≡ sets (replicate 256 0) 0 (threadRowsAll 0 (programOf o))

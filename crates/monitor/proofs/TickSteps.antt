@@ -12,7 +12,7 @@ use lib.Pow.{pow-pos, pow-mono}
 use Rattle.meaning.specs.Fit.{ok as clean, bad as broken}
 use Rattle.meaning.specs.Calls.{Reply, refused, isStray, isFull, reply, after, replyOf as verdictReply}
 use Rattle.words.specs.Words.{part1}
-use Rattle.monitor.specs.Letters.{Given, given, threaded}
+use Rattle.monitor.specs.Letters.{Given, given, threaded, unthreaded}
 use Rattle.monitor.specs.Walk.{Told, told, askM, leaveM}
 use Rattle.monitor.specs.Ticks.{steps, Layout, layout, firstMarked, ifMarked, eachMarked, shutRow, shutFor, shutBusy, andThen, letterGoes, lettersGo, startGoes, lettersEnd, monitorGoes, Reached, reached, reachedBy, monitorsGo, marksAfter, writeMarked, writers, Move, move, emptyMemory, moveBy, stepWithin, stepOf, within, stuckAt}
 use Rattle.rules.specs.declared.Watch.{Watch}
@@ -36,7 +36,7 @@ module _ (K : List ℕ) (f : ℕ → List ℕ → List ℕ) where
   unfolding eachMarked
   idle-done σ n l z = ap (eachMarked K f n (suc l)) (sym (not-done l σ z))
 
-  to-first-done : (n i : ℕ) (σ : List ℕ) (j : ℕ) → j ≡ firstMarked K (n - i) i → eachMarked K f (n - i) i σ ≡ eachMarked K f (n - j) j σ
+  pub to-first-done : (n i : ℕ) (σ : List ℕ) (j : ℕ) → j ≡ firstMarked K (n - i) i → eachMarked K f (n - i) i σ ≡ eachMarked K f (n - j) j σ
   to-first-done n i σ j = to-first K (λ m l. eachMarked K f m l σ) (idle-done σ) n i j
 
   pub done-first : (n : ℕ) (σ : List ℕ) (j : ℕ) → j ≡ firstMarked K (n - 0) 0 → eachMarked K f n 0 σ ≡ eachMarked K f (n - j) j σ
@@ -50,9 +50,10 @@ module _ (K : List ℕ) (f : ℕ → List ℕ → List ℕ) where
       let s : suc i ≡ i + 1 = omega arith in
       ap (λ (m : ℕ). eachMarked K f m i σ) d ∙ ap₂ (λ (j : ℕ) (υ : List ℕ). eachMarked K f (n - (i + 1)) j υ) s (sym e) ∙ to-first-done n (i + 1) τ j q
 
-  pub done-all : (n i : ℕ) (σ τ : List ℕ) → n ≤ i → eachMarked K f n 0 σ ≡ eachMarked K f (n - i) i τ → τ ≡ eachMarked K f n 0 σ
+  -- all are done, and x is what was to be done
+  pub done-up : (n i : ℕ) (x τ : List ℕ) → n ≤ i → x ≡ eachMarked K f (n - i) i τ → τ ≡ x
   unfolding eachMarked
-  done-all n i σ τ l e =
+  done-up n i x τ l e =
       let d : n - i ≡ 0 = omega arith in
       sym (e ∙ ap (λ (m : ℕ). eachMarked K f m i τ) d)
 
@@ -180,11 +181,11 @@ no-monitor g y K n M = let d : n ≡ n - 0 = omega arith in ap (λ (m : ℕ). mo
 -- ---- one tick
 
 -- no more monitors and letters than there is room for
-pub walk-within : (g : Given) (p o f : List ℕ) (m l : ℕ) (K : List ℕ) (M N : List ℕ) (t : Reached) (m′ l′ q k : ℕ) → m′ ≡ min m 32 → l′ ≡ min l 256 → q ≡ threaded g → k ≡ min q l′
-    → N ≡ eachMarked K (shutFor g) k 0 M → t ≡ monitorsGo g (layout p o f m′ l′) K m′ 0 N
+pub walk-within : (g : Given) (p o f : List ℕ) (m l : ℕ) (K : List ℕ) (M N : List ℕ) (t : Reached) (m′ l′ b q k : ℕ) → m′ ≡ min m 32 → l′ ≡ min l 256 → b ≡ unthreaded g → q ≡ threaded g → k ≡ min q l′
+    → N ≡ eachMarked K (shutFor g) (k - b) b M → t ≡ monitorsGo g (layout p o f m′ l′) K m′ 0 N
     → t ≡ monitorsGo g (layout p o f (min m 32) (min l 256)) K (min m 32) 0 (shutBusy g K (min l 256) M)
-walk-within g p o f m l K M N t m′ l′ q k e d u v n r =
-    r ∙ ap (monitorsGo g (layout p o f m′ l′) K m′ 0) (n ∙ ap (λ (j : ℕ). eachMarked K (shutFor g) j 0 M) (v ∙ ap₂ min u d))
+walk-within g p o f m l K M N t m′ l′ b q k e d c u v n r =
+    r ∙ ap (monitorsGo g (layout p o f m′ l′) K m′ 0) (n ∙ ap₂ (λ (i j : ℕ). eachMarked K (shutFor g) (i - j) j M) (v ∙ ap₂ min u d) c)
     ∙ ap₂ (λ (a b : ℕ). monitorsGo g (layout p o f a b) K a 0 (shutBusy g K (min l 256) M)) e d
 
 module _ (g : Given) (y : Layout) (K : List ℕ) (i : ℕ) (M : List ℕ) (r : reached i M ≡ monitorsGo g (within y) K (within y .monitors) 0 (shutBusy g K (within y .letters) emptyMemory)) where

@@ -15,7 +15,7 @@ use Rattle.rules.specs.declared.Watch.{Watch}
 use Rattle.monitor.specs.Letters.{Given, writeLetter}
 use Rattle.monitor.specs.Ticks.{eachMarked, writeIf, writeMarked, writers}
 use Rattle.monitor.specs.Threads.{threadsOf}
-use Rattle.monitor.specs.Calls.{upTo, writersOf, threadedOf, givenOf}
+use Rattle.monitor.specs.Calls.{upTo, writersOf, threadedOf, unthreadedOf, givenOf}
 use Rattle.monitor.proofs.LetterSteps.{neither, both, no-write}
 use Rattle.monitor.proofs.Moves.{writes-split}
 
@@ -136,12 +136,12 @@ module _ (v : Watch) where
       ∙ length-sets (replicate 1024 0) 0 (v .look) ∙ length-replicate {A = ℕ} 1024 0
 
 module _ (v : Watch) (σ w : List ℕ) where
-  -- the word with both counts
-  pub counts-are : getD (givenOf v σ w .letters) 768 0 ≡ quad (getD (threadsIn v) 0 0) (writersOf (v .links) 256) (threadedOf (threadsIn v) 256) 0
+  -- the word with the counts
+  pub counts-are : getD (givenOf v σ w .letters) 768 0 ≡ quad (getD (threadsIn v) 0 0) (writersOf (v .links) 256) (threadedOf (threadsIn v) 256) (unthreadedOf (threadsIn v) 256)
   counts-are = getD-set-same (sets (beforeThreads v) 768 (threadsIn v)) 768 _ 0 (omega (arith, length-sets (beforeThreads v) 768 (threadsIn v), before-long v))
 
   writers-are : part1 (getD (givenOf v σ w .letters) 768 0) ≡ writersOf (v .links) 256
-  writers-are = ap part1 counts-are ∙ quad-1 (getD (threadsIn v) 0 0) (writersOf (v .links) 256) (threadedOf (threadsIn v) 256) 0 (let h = up-to-below (unwriting (v .links)) 256 in omega (arith, h))
+  writers-are = ap part1 counts-are ∙ quad-1 (getD (threadsIn v) 0 0) (writersOf (v .links) 256) (threadedOf (threadsIn v) 256) (unthreadedOf (threadsIn v) 256) (let h = up-to-below (unwriting (v .links)) 256 in omega (arith, h))
 
   pub writers-enough : (n : ℕ) → n ≤ 256 → (K ρ : List ℕ) → writeMarked (givenOf v σ w) K (writers (givenOf v σ w) n) 0 ρ ≡ writeMarked (givenOf v σ w) K n 0 ρ
   writers-enough n few K ρ =

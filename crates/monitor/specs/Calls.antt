@@ -13,7 +13,7 @@ use Rattle.words.specs.Words.{quad}
 use Rattle.rules.specs.declared.Watch.{Watch}
 use Rattle.monitor.specs.Letters.{Given, given}
 use Rattle.monitor.specs.Threads.{threadsOf}
-use Rattle.monitor.specs.Ticks.{Layout, layout, Move, stepOf, verdictOf}
+use Rattle.monitor.specs.Ticks.{Layout, layout, firstMarked, Move, stepOf, verdictOf}
 
 -- W7: what moves from tick to tick, the marks, the store values and the word of the last tick.
 pub record Moving : Type 0 where
@@ -22,9 +22,9 @@ pub record Moving : Type 0 where
   pub last : ℕ
 
 -- the rest of a watch: what each letter looks at, 256 places on what it wants, 512 on the wires that must be as before, 768 on the row of the thread that it goes on in, or 0; and with that of letter 0 the
--- numbers of letters up to the last that writes and up to the last that goes on in a thread
-abbrev pub lettersOf : (look want held threads : List ℕ) → (writers threaded : ℕ) → List ℕ
-lettersOf a b h t n m = set (sets (sets (sets (sets (replicate 1024 0) 0 a) 256 b) 512 h) 768 t) 768 (quad (getD t 0 0) n m 0)
+-- numbers of letters up to the last that writes, up to the last that goes on in a thread, and before the first that does
+abbrev pub lettersOf : (look want held threads : List ℕ) → (writers threaded unthreaded : ℕ) → List ℕ
+lettersOf a b h t n m k = set (sets (sets (sets (sets (replicate 1024 0) 0 a) 256 b) 512 h) 768 t) 768 (quad (getD t 0 0) n m k)
 
 -- of the first n letters so many, up to the last that is not idle
 unfoldable pub upTo : (idle : ℕ → Bool) → (n : ℕ) → ℕ
@@ -40,8 +40,12 @@ abbrev pub threadedOf : (threads : List ℕ) → (n : ℕ) → ℕ
 threadedOf t n = upTo (λ l. eqb (getD t l 0) 0) n
 
 -- of a watch, with the threads of its letters
+-- before the first that does
+abbrev pub unthreadedOf : (threads : List ℕ) → (n : ℕ) → ℕ
+unthreadedOf t n = firstMarked t n 0
+
 abbrev pub lettersBy : Watch → (threads : List ℕ) → List ℕ
-lettersBy v t = lettersOf (v .look) (v .want) (v .held) t (writersOf (v .links) 256) (threadedOf t 256)
+lettersBy v t = lettersOf (v .look) (v .want) (v .held) t (writersOf (v .links) 256) (threadedOf t 256) (unthreadedOf t 256)
 
 -- its tables, as a tick is lent them
 abbrev pub tablesOf : Watch → List (List ℕ)

@@ -7,11 +7,11 @@ use lib.Dec.{eqb}
 use lib.Bits.{bitAnd}
 use lib.ListN.{getD, set}
 use Rattle.masks.specs.Wires.{passes}
-use Rattle.words.specs.Words.{part0, part1, part2}
+use Rattle.words.specs.Words.{part0, part1, part2, part3}
 
 -- What a tick is judged by: the rows, each in one word; the letters' links and their numbers; for each letter the wires that it looks at, 256 places on the values that
 -- it wants, 512 on the wires that must be as before and 768 on, in part 0, the row of the thread that it goes on in; at 768 also how many letters there are up to the last
--- that writes (part 1) and up to the last that goes on in a thread (part 2); the store values before the tick, its word and the one before it.
+-- that writes (part 1), up to the last that goes on in a thread (part 2) and before the first that does (part 3); the store values before the tick, its word and the one before it.
 pub record Given : Type 0 where
   pub table : List ℕ
   pub links : List ℕ
@@ -57,6 +57,9 @@ writeLetter g l σ = writeSlot g (4 * l + 3) (writeSlot g (4 * l + 2) σ)
 abbrev pub threadRowOf : Given → (letter : ℕ) → ℕ
 threadRowOf g l = part0 (getD (g .letters) (768 + l) 0)
 
--- so many letters there are up to the last that goes on in one
+-- so many letters there are up to the last that goes on in one, and before the first
 abbrev pub threaded : Given → ℕ
 threaded g = part2 (getD (g .letters) 768 0)
+
+abbrev pub unthreaded : Given → ℕ
+unthreaded g = part3 (getD (g .letters) 768 0)

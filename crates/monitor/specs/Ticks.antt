@@ -7,7 +7,7 @@ use lib.ListN.{getD, set, take, drop, replicate}
 use lib.Seq.{sets}
 use Rattle.meaning.specs.Fit.{Verdict, ok, bad}
 use Rattle.words.specs.Words.{part1}
-use Rattle.monitor.specs.Letters.{Given, threadRowOf, threaded, writeLetter}
+use Rattle.monitor.specs.Letters.{Given, threadRowOf, threaded, unthreaded, writeLetter}
 use Rattle.monitor.specs.Walk.{Told, told, askM, leaveM}
 
 -- 4 calls for each row are enough
@@ -50,13 +50,13 @@ shutRow r M = cond (eqb r 0) M (cond (leb 1024 r) M (set M r 1))
 abbrev pub shutFor : Given → (l : ℕ) → List ℕ → List ℕ
 shutFor g l M = shutRow (threadRowOf g l) M
 
--- so many letters need be looked at, by what the tables say, and no more than there are
+-- up to this letter, by what the tables say, and no further than there are any
 abbrev pub threadedAmong : Given → (letters : ℕ) → ℕ
 threadedAmong g n = min (threaded g) n
 
 -- the memory at a tick's start: the rows of the threads that marked letters go on in are shut
 abbrev pub shutBusy : Given → (marks : List ℕ) → (letters : ℕ) → List ℕ → List ℕ
-shutBusy g marks n M = eachMarked marks (shutFor g) (threadedAmong g n) 0 M
+shutBusy g marks n M = eachMarked marks (shutFor g) (threadedAmong g n - unthreaded g) (unthreaded g) M
 
 -- ---- every active position goes on
 

@@ -7,7 +7,7 @@ use super::walk::BLOCKED;
 use words::part0;
 ghost use mathlib.Core.Path.{_≡_};
 ghost use mathlib.Core.List.{List};
-ghost use Prim.Native.Nat.{ℕ, _<_, _≤_};
+ghost use Prim.Native.Nat.{ℕ, _-_, _<_, _≤_};
 ghost use Rattle.monitor.specs.Letters.{given};
 ghost use Rattle.monitor.specs.Ticks.{ifMarked, eachMarked, shutRow, shutFor};
 
@@ -35,19 +35,20 @@ fn shut_if(letter: usize, marks: &[u8; 288], tables: &[[u64; 1024]; 4], memory: 
     shut_row(part0(tables[LETTERS][THREADS + letter]), memory);
 }
 
-// The threads that the marked letters go on in.
+// The threads that the marked letters from one up to another go on in.
 pub(crate) fn shut_marked(
-    letters: usize,
+    from: usize,
+    to: usize,
     marks: &[u8; 288],
     tables: &[[u64; 1024]; 4],
     memory: &mut [u8; 1280],
 )
-    requires { ⌜ letters ≤ 256 ⌝ }
-    ensures { λ _. ⌜ ((S W : List ℕ) → now (memory .exit) ≡ eachMarked (now (marks .entry)) (shutFor (given (now (tables .entry)) S W)) letters 0 (now (memory .entry))) ⌝ }
+    requires { ⌜ to ≤ 256 ⌝ }
+    ensures { λ _. ⌜ ((S W : List ℕ) → now (memory .exit) ≡ eachMarked (now (marks .entry)) (shutFor (given (now (tables .entry)) S W)) (to - from) from (now (memory .entry))) ⌝ }
 {
-    let mut i = first_marked(marks, 0, letters);
-    while i < letters {
+    let mut i = first_marked(marks, from, to);
+    while i < to {
         shut_if(i, marks, tables, memory);
-        i = first_marked(marks, i + 1, letters);
+        i = first_marked(marks, i + 1, to);
     }
 }

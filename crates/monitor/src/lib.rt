@@ -22,6 +22,7 @@ use tables::THREADS;
 pub use tables::tables_of;
 use words::part1;
 use words::part2;
+use words::part3;
 ghost use mathlib.Core.Path.{_≡_};
 ghost use mathlib.Core.Bool.{true};
 ghost use mathlib.Core.List.{List, [], _∷_};
@@ -89,8 +90,9 @@ fn walk_on(
 {
     let count = least(monitors, 32);
     let end = least(letters, 256);
-    let threaded = least(part2(tables[LETTERS][THREADS]), end);
-    shut_marked(threaded, marks, tables, memory);
+    let from = part3(tables[LETTERS][THREADS]);
+    let to = least(part2(tables[LETTERS][THREADS]), end);
+    shut_marked(from, to, marks, tables, memory);
     monitors_go(
         count,
         end,

@@ -7,7 +7,7 @@ ghost use mathlib.Core.Path.{_≡_};
 ghost use Prim.Native.Nat.{_+_, _≤_};
 ghost use lib.ListN.{length};
 ghost use lib.Seq.{sets};
-ghost use Rattle.monitor.specs.Calls.{writersOf, threadedOf, tablesOf};
+ghost use Rattle.monitor.specs.Calls.{writersOf, threadedOf, unthreadedOf, tablesOf};
 
 // The rows, each in one word.
 pub(crate) const ROWS: usize = 0;
@@ -26,7 +26,8 @@ pub(crate) const WANTED: usize = 256;
 pub(crate) const HELD: usize = 512;
 
 // From here on, in part 0, the row of the thread that each letter goes on in, or 0. In the first of these words also how many
-// letters there are up to the last that writes (part 1) and up to the last that goes on in a thread (part 2).
+// letters there are up to the last that writes (part 1), up to the last that goes on in a thread (part 2) and before the first that
+// does (part 3).
 pub(crate) const THREADS: usize = 768;
 
 // The two words of a tick: its own, and the one before.
@@ -80,6 +81,20 @@ fn threaded_of(threads: &[u64; 256]) -> usize
     0
 }
 
+// How many letters there are before the first that goes on in a thread.
+fn unthreaded_of(threads: &[u64; 256]) -> usize
+    ensures { λ r. ⌜ r ≡ unthreadedOf (now (threads .entry)) 256 ⌝ }
+{
+    let mut letter: usize = 0;
+    while letter < 256 {
+        if threads[letter] != 0 {
+            return letter;
+        }
+        letter += 1;
+    }
+    letter
+}
+
 // The tables of a watch.
 pub fn tables_of(watch: Watch) -> [[u64; 1024]; 4]
     ensures { λ r. ⌜ r ≡ tablesOf watch ⌝ }
@@ -95,7 +110,8 @@ pub fn tables_of(watch: Watch) -> [[u64; 1024]; 4]
     place(&threads, THREADS, &mut letters);
     let writers = writers_of(&links, 256);
     let threaded = threaded_of(&threads);
-    letters[THREADS] = quad(threads[0] as usize, writers, threaded, 0);
+    let unthreaded = unthreaded_of(&threads);
+    letters[THREADS] = quad(threads[0] as usize, writers, threaded, unthreaded);
     let mut tables = [[0u64; 1024]; 4];
     tables[ROWS] = rows;
     tables[LINKS] = links;

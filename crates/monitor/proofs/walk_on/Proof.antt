@@ -15,11 +15,14 @@ walk-on-spec =
     (λ c. search needs)
     (λ c. search needs)
     (λ c κs. search needs)
+    (λ c. search needs)
+    (λ c. search needs)
+    (λ c κs. search needs)
     (λ c κs. search needs)
     (λ c κs. search needs)
     (λ c κs. search needs)
     (λ c.
-    let a = c .before .before .before .before .before .before .before .before .before .args in
+    let a = c .before .before .before .before .before .before .before .before .before .before .before .args in
     let g = given (a .tables .now) (a .values .now) (a .words .now) in
-    walk-within g (a .places .now) (a .own .now) (a .firsts .now) (a .monitors) (a .letters) (a .marks .now) (a .memory .now) _ _ _ _ _ _ (c .before .before .before .before .before .before .before .before .least .ensures) (c .before .before .before .before .before .before .before .least2 .ensures) (c .before .before .before .before .before .part2 .ensures) (c .before .before .before .before .least3 .ensures)
-    (c .before .before .shut-marked .ensures (a .values .now) (a .words .now)) (c .monitors-go .ensures)))
+    walk-within g (a .places .now) (a .own .now) (a .firsts .now) (a .monitors) (a .letters) (a .marks .now) (a .memory .now) _ _ _ _ _ _ _ (c .before .before .before .before .before .before .before .before .before .before .least .ensures) (c .before .before .before .before .before .before .before .before .before .least2 .ensures) (c .before .before .before .before .before .before .before .part3 .ensures) (c .before .before .before .before .before .part2 .ensures)
+    (c .before .before .before .before .least3 .ensures) (c .before .before .shut-marked .ensures (a .values .now) (a .words .now)) (c .monitors-go .ensures)))

@@ -6,7 +6,7 @@ use mathlib.Core.List.{List}
 use mathlib.Core.Path.{_≡_, _∙_}
 use native.Mathlib.Omega.{arith}
 use Rattle.monitor.proofs.Marked.{first-above}
-use Rattle.monitor.proofs.TickSteps.{done-first, done-more, done-all}
+use Rattle.monitor.proofs.TickSteps.{done-first, done-more, done-up}
 use Rattle.monitor.specs.Letters.{given, writeLetter}
 use Rattle.monitor.specs.Ticks.{writeMarked}
 use Rattle.monitor.proofs.write_marked.Statement.{statement}
@@ -45,4 +45,4 @@ write-marked-spec =
     (λ c S.
     let l = c .before .loop in
     let a = c .before .before .before .args in
-    done-all (a .marks .now) (writeLetter (given (a .tables .now) S (a .words .now))) (a .letters) (l .i) (a .values .now) _ (omega arith) (l .inv S)))
+    done-up (a .marks .now) (writeLetter (given (a .tables .now) S (a .words .now))) (a .letters) (l .i) _ _ (omega arith) (l .inv S)))

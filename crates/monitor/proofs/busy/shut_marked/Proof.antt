@@ -6,18 +6,18 @@ use mathlib.Core.List.{List}
 use mathlib.Core.Path.{_≡_, _∙_}
 use native.Mathlib.Omega.{arith}
 use Rattle.monitor.proofs.Marked.{first-above}
-use Rattle.monitor.proofs.TickSteps.{done-first, done-more, done-all}
+use Rattle.monitor.proofs.TickSteps.{to-first-done, done-more, done-up}
 use Rattle.monitor.specs.Letters.{given}
 use Rattle.monitor.specs.Ticks.{eachMarked, shutFor}
 use Rattle.monitor.proofs.busy.shut_marked.Statement.{statement}
 use Rattle.monitor.proofs.busy.shut_marked.Tie as tie
 
 abbrev Inv-loop : tie.InvT-loop
-Inv-loop letters marks tables memory₀ i₀ memory i =
-    (S W : List ℕ) → eachMarked marks (shutFor (given tables S W)) letters 0 memory₀ ≡ eachMarked marks (shutFor (given tables S W)) (letters - i) i memory
+Inv-loop from to marks tables memory₀ i₀ memory i =
+    (S W : List ℕ) → eachMarked marks (shutFor (given tables S W)) (to - from) from memory₀ ≡ eachMarked marks (shutFor (given tables S W)) (to - i) i memory
 
 abbrev μ-loop : tie.MeasureT-loop
-μ-loop letters marks tables memory₀ i₀ memory i = letters - i
+μ-loop from to marks tables memory₀ i₀ memory i = to - i
 
 pub shut-marked-spec : {M : Type 1} → statement M
 shut-marked-spec =
@@ -28,20 +28,20 @@ shut-marked-spec =
     (λ c κs. search needs)
     (λ c S W.
     let a = c .before .args in
-    done-first (a .marks .now) (shutFor (given (a .tables .now) S W)) (a .letters) (a .memory .now) _ (c .first-marked .ensures))
+    to-first-done (a .marks .now) (shutFor (given (a .tables .now) S W)) (a .to) (a .from) (a .memory .now) _ (c .first-marked .ensures))
     (λ c κs. search needs)
     (λ c. search needs)
     (λ c κs. search needs)
     (λ c.
     let l = c .before .before .before .before .loop in
     let a = c .before .before .before .before .before .before .args in
-    let h = first-above (a .marks .now) (a .letters - (l .i + 1)) (l .i + 1) in
+    let h = first-above (a .marks .now) (a .to - (l .i + 1)) (l .i + 1) in
     omega (arith, h, c .first-marked2 .ensures))
     (λ c S W.
     let l = c .before .before .before .before .loop in
     let a = c .before .before .before .before .before .before .args in
-    l .inv S W ∙ done-more (a .marks .now) (shutFor (given (a .tables .now) S W)) (a .letters) (l .i) (l .memory) _ (omega arith) (c .before .shut-if .ensures S W) _ (c .first-marked2 .ensures))
+    l .inv S W ∙ done-more (a .marks .now) (shutFor (given (a .tables .now) S W)) (a .to) (l .i) (l .memory) _ (omega arith) (c .before .shut-if .ensures S W) _ (c .first-marked2 .ensures))
     (λ c S W.
     let l = c .before .loop in
     let a = c .before .before .before .args in
-    done-all (a .marks .now) (shutFor (given (a .tables .now) S W)) (a .letters) (l .i) (a .memory .now) _ (omega arith) (l .inv S W)))
+    done-up (a .marks .now) (shutFor (given (a .tables .now) S W)) (a .to) (l .i) _ _ (omega arith) (l .inv S W)))

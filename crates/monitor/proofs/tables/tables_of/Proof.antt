@@ -7,7 +7,7 @@ use Prim.Native.Nat.{ℕ}
 use lib.ListN.{getD, set}
 use lib.Seq.{sets}
 use Rattle.words.specs.Words.{quad}
-use Rattle.monitor.specs.Calls.{lettersBy}
+use Rattle.monitor.specs.Calls.{lettersBy, writersOf, threadedOf}
 use Rattle.monitor.proofs.tables.tables_of.Statement.{statement}
 use Rattle.monitor.proofs.tables.tables_of.Tie as tie
 
@@ -15,6 +15,7 @@ pub tables-of-spec : {M : Type 1} → statement M
 tables-of-spec =
     tie.close
     (tie.spec
+    (λ c κs. search needs)
     (λ c κs. search needs)
     (λ c κs. search needs)
     (λ c κs. search needs)
@@ -30,7 +31,7 @@ tables-of-spec =
     (λ c. search needs)
     (λ c. search needs)
     (λ c.
-    let r = c .before .before .before .before .before in
+    let r = c .before .before .before .before .before .before .before in
     let s = r .before .before .before .before .before in
     let v = s .before .before .before .before .before .before .before .before .before .before .before .before .before .before .before .args .t1 in
     let t = r .before .before .before .threads-of in
@@ -39,6 +40,9 @@ tables-of-spec =
     (s .place3 .ensures
     ∙ ap (λ (l : List ℕ). sets l 512 (v .held))
     (s .before .before .before .before .place2 .ensures ∙ ap (λ (l : List ℕ). sets l 256 (v .want)) (s .before .before .before .before .before .before .before .before .place .ensures))) in
-    let n = c .quad .ensures ∙ ap₂ (λ (i j : ℕ). quad (getD (t .result) 0 0) i j 0) (c .before .before .before .writers-of .ensures) (c .before .threaded-of .ensures) in
+    let u = c .before .unthreaded-of in
+    let n = c .quad .ensures
+    ∙ ap₂ (λ (i j : ℕ). quad (getD (t .result) 0 0) i j (u .result)) (c .before .before .before .before .before .writers-of .ensures) (c .before .before .before .threaded-of .ensures)
+    ∙ ap (λ (k : ℕ). quad (getD (t .result) 0 0) (writersOf (v .links) 256) (threadedOf (t .result) 256) k) (u .ensures) in
     ap₂ (λ (l : List ℕ) (n : ℕ). v .table ∷ v .links ∷ v .numbers ∷ set l 768 n ∷ []) l n
     ∙ ap (λ (l : List ℕ). v .table ∷ v .links ∷ v .numbers ∷ lettersBy v l ∷ []) (t .ensures)))
