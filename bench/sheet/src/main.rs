@@ -28,7 +28,7 @@ impl Dice {
 }
 
 /// How often a word is drawn before there is none.
-const TRIES: usize = 100_000;
+const TRIES: usize = 1_000;
 
 /// Words that keep the rules: of those that `drawn` makes of random bits and the word before, the ones that a look finds ok, and behind which another is: a thread
 /// that was started twice leaves no word that is.
