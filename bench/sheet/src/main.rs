@@ -28,10 +28,10 @@ impl Dice {
 }
 
 /// How often a word is drawn before there is none.
-const TRIES: usize = 1_000;
+const TRIES: usize = 256;
 
 /// Words that keep the rules: of those that `drawn` makes of random bits and the word before, the ones that a look finds ok, and behind which another is: a thread
-/// that was started twice leaves no word that is.
+/// that was started while it ran leaves no word that is.
 fn words(text: &[u8], drawn: impl Fn(u64, u64) -> u64) -> Vec<u64> {
     let program = second::open(text).expect("the text is accepted");
     let mask = if program.wires() == 64 { u64::MAX } else { (1 << program.wires()) - 1 };

@@ -13,7 +13,7 @@ use Rattle.meaning.specs.Shape.{nullable}
 use Rattle.meaning.specs.Fit.{Tick, meets, Run, Rest, pastTheEnd, anything, merge, both, runs}
 use Rattle.meaning.specs.Positions.{Way, over, joined, Entered, met, passed, blocked, orEnter, orPass, enter, goesBy, ask, has, leave, Positions, at-start, on}
 use Rattle.meaning.proofs.ListLaws.{here, no-∈, append-∈, ∈-left, ∈-right, ∈-map, map-∈, one-∈, T-and, and-T, T-or-left, T-or-right, is-true, is-false, any-from, any-to}
-use Rattle.meaning.proofs.Step.{Solid, unroll, ended, Good, goesOn, afters, Placed, good-both, good-anything, ∈-both, both-∈}
+use Rattle.meaning.proofs.Step.{Solid, unroll, ended, Good, goesOn, afters, Placed, afters-good, ∈-both, both-∈}
 use Rattle.meaning.proofs.Entering.{goes-then}
 use Rattle.meaning.proofs.OneWay.{Same, Apart, Numbered}
 
@@ -178,7 +178,7 @@ abbrev pub passing : (P : List ℕ → Bool) → Option (List ℕ) → Option (L
 passing P none = none
 passing P (some ns) = cond (P ns) (some ns) none
 
-pub passing-some : (P : List ℕ → Bool) (o : Option (List ℕ)) (ns : List ℕ) → passing P o ≡ some ns → (o ≡ some ns) × T (P ns)
+passing-some : (P : List ℕ → Bool) (o : Option (List ℕ)) (ns : List ℕ) → passing P o ≡ some ns → (o ≡ some ns) × T (P ns)
 passing-some P none ns p = absurd (Option·none-ne-some ns p)
 passing-some P (some ms) ns p = by (P ms) refl p
   where
@@ -226,11 +226,6 @@ module _ (start : Rest) (G : ℕ → Rest) (W : Positions → Way) (ex : Exact s
   afters-ends [] = refl
   afters-ends (n ∷ ns) = ap₂ both ((ex .G-ends) n) (afters-ends ns)
 
-  afters-good : (ns : List ℕ) → Good G (afters G ns)
-  unfolding afters
-  afters-good [] = good-anything G
-  afters-good (n ∷ ns) = good-both G (G n) (afters G ns) ((ex .G-good) n) (afters-good ns)
-
   afters-same : (ns : List ℕ) (t : Tick) → Same t (afters G ns)
   unfolding afters
   afters-same [] t r s i j = one-∈ i ∙ sym (one-∈ j)
@@ -245,7 +240,7 @@ module _ (start : Rest) (G : ℕ → Rest) (W : Positions → Way) (ex : Exact s
 
   rest-good : (x : Positions) → Good G (rest start G x)
   rest-good at-start = (ex .start-good)
-  rest-good (on ns) = afters-good ns
+  rest-good (on ns) = afters-good G (ex .G-good) ns
 
   rest-same : (x : Positions) (t : Tick) → Same t (rest start G x)
   rest-same at-start = (ex .start-same)

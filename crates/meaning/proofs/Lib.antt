@@ -7,6 +7,8 @@ pub mod Step
 pub mod Entering
 -- in a monitor that keeps 10, 11 and 12 all runs from one letter over one tick are equal
 pub mod OneWay
+-- the threads of an expression and the letters that a part has of its own
+pub mod Threads
 -- over one tick the machine goes as the runs do, and over many; its positions are the letters of the last tick
 pub mod Active
 -- for a monitor that keeps the rules the machine goes on exactly where the ticks fit, and its positions are the letters met
@@ -17,6 +19,8 @@ pub mod Sets
 pub mod Occupied
 -- what F17 takes for granted of a start: one letter a tick, to its last, and none behind that
 pub mod Requires
+-- on its runs: behind its last letter a start requires none, behind any other one
+pub mod StartEnds
 -- word by word the machine's verdict is that of `Fit`, and its positions, last word and store values are those of the history
 pub mod Watch
 -- literals agree bit by bit exactly where a word meets them all

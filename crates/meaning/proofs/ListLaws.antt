@@ -1,7 +1,7 @@
 -- Facts on lists that the proofs share: `each`, membership, tests.
 use mathlib.Core.List.{List, [], _∷_, _++_, map, append-assoc, map-append}
 pub use mathlib.Core.List.{List·Memᴰ·head as here, List·Memᴰ·tail as there, List·Memᴰ·cases-cons as cons-∈, List·Memᴰ·not-nil as no-∈, List·Memᴰ·append-cases as append-∈, Memᴰ·append-left as ∈-left, Memᴰ·append-right as ∈-right, Memᴰ·map as ∈-map, Memᴰ·of-map as map-∈, Memᴰ·cast as ∈-cast, List·Memᴰ·eq-of-singleton as one-∈}
-use mathlib.Core.Bool.{Bool, true, false, _&&_, _||_}
+use mathlib.Core.Bool.{Bool, true, false, not, cond, _&&_, _||_}
 use mathlib.Core.Path.{_≡_, refl, sym, ap, _∙_, subst, fun-ext}
 use mathlib.Core.Logic.{_⊎_, inl, inr}
 use lib.Dec.{T}
@@ -81,6 +81,14 @@ same-truth true true f g = refl
 same-truth true false f g = absurd (f tt)
 same-truth false true f g = absurd (g tt)
 same-truth false false f g = refl
+
+pub by-test : {P : Type 0} (b : Bool) → (T b → P) → (T (not b) → P) → P
+by-test true f g = f tt
+by-test false f g = g tt
+
+pub by-cond : {A : Type 0} (P : A → Type 0) (b : Bool) (x y : A) → (T b → P x) → (T (not b) → P y) → P (cond b x y)
+by-cond P true x y f g = f tt
+by-cond P false x y f g = g tt
 
 pub is-true : (b : Bool) → T b → b ≡ true
 is-true true t = refl

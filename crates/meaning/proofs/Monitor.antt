@@ -7,7 +7,7 @@ use mathlib.Core.Path.{_≡_, refl, sym, ap, ap₂, _∙_, subst}
 use Prim.Native.Nat.{ℕ}
 use lib.Dec.{T, eqb, leb}
 use lib.ListN.{length, getD}
-use Rattle.meaning.specs.Lists.{any, all, keep, only, null, member, _∈_}
+use Rattle.meaning.specs.Lists.{any, keep, only, null, member, _∈_}
 use Rattle.meaning.specs.Expression.{Literal, wire, wire-store, wire-past, store, Letter, Exp, letter, seq, alt, star, pipe, letters}
 use Rattle.meaning.specs.Shape.{SideBySide, meetsWires, wireHolds, first, follow, threads}
 use Rattle.meaning.specs.ShapeTests.{together}
@@ -131,7 +131,7 @@ abbrev pub goCounted : Exp → Positions → Way
 goCounted m x t = passing (admits m) (goIdle m x t)
 
 -- no letters, none twice
-pub admits-none : (m : Exp) → T (admits m [])
+admits-none : (m : Exp) → T (admits m [])
 unfolding occupied
 admits-none m = none (threads m)
   where

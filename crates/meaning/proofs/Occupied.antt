@@ -5,109 +5,22 @@ use mathlib.Core.Bool.{Bool, true, false, not, cond, _&&_, _||_}
 use mathlib.Core.Option.{Option, none, some, Option·none-ne-some, Option·some-injective}
 use mathlib.Core.Path.{_≡_, refl, sym, ap, ap₂, _∙_, subst}
 use mathlib.Core.Logic.{_⊎_, inl, inr, ⊎-elim}
-use Prim.Native.Nat.{ℕ, zero, suc, _+_, _≤_}
+use Prim.Native.Nat.{ℕ, _+_, _≤_}
 use native.Mathlib.Omega.{arith}
-use lib.Dec.{T, T-not, not-T, eqb, eqb→eq, eqb-refl, leb, leb→le, le→leb}
-use Rattle.meaning.specs.Lists.{_∈_, any, count, total, only}
+use lib.Dec.{T, T-not, not-T, eqb, leb, leb→le, le→leb}
+use Rattle.meaning.specs.Lists.{_∈_, count, total}
 use Rattle.meaning.specs.Expression.{Letter, Exp, letter, seq, alt, star, pipe, letters, own}
-use Rattle.meaning.specs.Shape.{nullable, first, last, follow, threads}
+use Rattle.meaning.specs.Shape.{nullable, last, follow, threads}
 use Rattle.meaning.specs.Fit.{Tick, among, required, occupied}
 use Rattle.meaning.specs.Positions.{Way, stuck, over, joined, Entered, met, passed, blocked, enter, goesBy, ask, has, underWay, busy, begin, leave, Positions, at-start, on, goAll, go}
-use Rattle.meaning.proofs.ListLaws.{here, there, cons-∈, no-∈, append-∈, ∈-left, ∈-right, ∈-only, T-and, and-T, or-T, T-or-left, T-or-right, is-true, is-false, any-from, any-to}
+use Rattle.meaning.proofs.ListLaws.{here, there, cons-∈, no-∈, append-∈, ∈-left, ∈-right, and-T, is-true, is-false, by-test, by-cond, any-from, any-to}
 use Rattle.meaning.proofs.Step.{Solid}
 use Rattle.meaning.proofs.Entering.{passed-nullable}
-use Rattle.meaning.proofs.OneWay.{Apart, Numbered, Closed, Has, last-has, apart-has}
+use Rattle.meaning.proofs.OneWay.{Apart, Numbered, Closed, Has, apart-has}
+use Rattle.meaning.proofs.Threads.{among-to, among-from, among-at, among-append, among-left, among-right, rest-has, own-letters, own-has, own-here, own-there, thread-has, own-apart, not-both, one-own, Ends, seq-ends, alt-ends, star-ends, pipe-ends, seq-not-last, alt-not-last}
 use Rattle.meaning.proofs.Active.{idle, passing, passing-yes, then-some, positionsAfter}
 use Rattle.meaning.proofs.Monitor.{Accepted, goIdle, admits, goCounted}
-use Rattle.meaning.proofs.Sets.{Within, joined-some, MetIn, enter-own, own-letters, go-inside}
-
--- ---- letters by their numbers ----
-
-pub among-to : (ls : List Letter) (n : ℕ) → T (among ls n) → (l : Letter) × (l ∈ ls) × (l .number ≡ n)
-among-to ls n t = let (l, i, e) = any-to (λ l. eqb n (l .number)) ls t in (l, i, sym (eqb→eq n (l .number) e))
-
-pub among-from : (ls : List Letter) (l : Letter) → l ∈ ls → T (among ls (l .number))
-among-from ls l i = any-from (λ x. eqb (l .number) (x .number)) i (eqb-refl (l .number))
-
-pub among-at : (ls : List Letter) (n : ℕ) (l : Letter) → l ∈ ls → l .number ≡ n → T (among ls n)
-among-at ls n l i p = subst (λ k. T (among ls k)) p (among-from ls l i)
-
-pub among-append : (ls ms : List Letter) (n : ℕ) → among (ls ++ ms) n ≡ (among ls n || among ms n)
-among-append [] ms n = refl
-among-append (l ∷ ls) ms n = ap (λ b. eqb n (l .number) || b) (among-append ls ms n) ∙ or-assoc (eqb n (l .number)) (among ls n) (among ms n)
-  where
-    or-assoc : (a b c : Bool) → (a || (b || c)) ≡ ((a || b) || c)
-    or-assoc true b c = refl
-    or-assoc false b c = refl
-
--- n stands in one of the two, and not in the first
-pub rest-has : (ls ms : List Letter) (n : ℕ) → T (among (ls ++ ms) n) → T (not (among ls n)) → T (among ms n)
-rest-has ls ms n t h = ⊎-elim (λ a. absurd (T-not (among ls n) h a)) (λ b. b) (or-T (among ls n) (among ms n) (subst T (among-append ls ms n) t))
-
-pub own-has : (e : Exp) (n : ℕ) → T (among (own e) n) → T (has n e)
-own-has e n t = let (l, i, p) = among-to (own e) n t in among-at (letters e) n l (own-letters e l i) p
-
--- an own letter of two parts, in the one that it stands in
-pub own-here : (e f : Exp) (n : ℕ) → Apart e f → T (has n e) → T (among (own e ++ own f) n) → T (among (own e) n)
-own-here e f n a h t = ⊎-elim (λ p. p)
-    (λ p. absurd (apart-has e f n a (among-to (letters e) n h) (among-to (letters f) n (own-has f n p))))
-    (or-T (among (own e) n) (among (own f) n) (subst T (among-append (own e) (own f) n) t))
-
-pub own-there : (e f : Exp) (n : ℕ) → T (not (has n e)) → T (among (own e ++ own f) n) → T (among (own f) n)
-own-there e f n h t = rest-has (own e) (own f) n t (not-T (among (own e) n) (λ o. T-not (has n e) h (own-has e n o)))
-
--- the letters of a thread are letters of what it stands in
-pub thread-letters : (e f : Exp) → f ∈ threads e → (x : Letter) → x ∈ letters f → x ∈ letters e
-unfolding threads letters
-thread-letters (letter l) f i x j = absurd (no-∈ i)
-thread-letters (seq e g) f i x j = ⊎-elim (λ k. ∈-left (letters g) (thread-letters e f k x j)) (λ k. ∈-right (letters e) (thread-letters g f k x j)) (append-∈ (threads e) i)
-thread-letters (alt e g) f i x j = ⊎-elim (λ k. ∈-left (letters g) (thread-letters e f k x j)) (λ k. ∈-right (letters e) (thread-letters g f k x j)) (append-∈ (threads e) i)
-thread-letters (star e) f i x j = thread-letters e f i x j
-thread-letters (pipe e g) f i x j = ⊎-elim
-    (λ p. ∈-right (letters e) (subst (λ z. x ∈ letters z) p j))
-    (λ m. ⊎-elim (λ k. ∈-left (letters g) (thread-letters e f k x j)) (λ k. ∈-right (letters e) (thread-letters g f k x j)) (append-∈ (threads e) m))
-    (cons-∈ i)
-
-thread-has : (e f : Exp) → f ∈ threads e → (n : ℕ) → T (among (own f) n) → Has n e
-thread-has e f i n p = let (l, j, q) = among-to (own f) n p in (l, thread-letters e f i l (own-letters f l j), q)
-
--- f stands in one of two parts
-two-apart : (e g f : Exp) → Apart e g → (n : ℕ) → (f ∈ threads e → T (among (own e) n) → ⊥) → (f ∈ threads g → T (among (own g) n) → ⊥)
-    → T (among (own f) n) → T (among (own e ++ own g) n) → (f ∈ threads e) ⊎ (f ∈ threads g) → ⊥
-two-apart e g f a n h k p q (inl i) = ⊎-elim (h i) (λ y. apart-has e g n a (thread-has e f i n p) (among-to (letters g) n (own-has g n y)))
-    (or-T (among (own e) n) (among (own g) n) (subst T (among-append (own e) (own g) n) q))
-two-apart e g f a n h k p q (inr i) = ⊎-elim (λ y. apart-has e g n a (among-to (letters e) n (own-has e n y)) (thread-has g f i n p)) (k i)
-    (or-T (among (own e) n) (among (own g) n) (subst T (among-append (own e) (own g) n) q))
-
--- What a thread requires the part around it does not: their own letters are apart. F17: "A letter is required by the innermost thread that it stands in".
-pub own-apart : (e f : Exp) → Numbered e → f ∈ threads e → (n : ℕ) → T (among (own f) n) → T (among (own e) n) → ⊥
-unfolding threads own
-own-apart (letter l) f a i n p q = no-∈ i
-own-apart (seq e g) f a i n p q = two-apart e g f (a .0) n (λ k. own-apart e f (a .1) k n p) (λ k. own-apart g f (a .2) k n p) p q (append-∈ (threads e) i)
-own-apart (alt e g) f a i n p q = two-apart e g f (a .0) n (λ k. own-apart e f (a .1) k n p) (λ k. own-apart g f (a .2) k n p) p q (append-∈ (threads e) i)
-own-apart (star e) f a i n p q = own-apart e f a i n p q
-own-apart (pipe e g) f a i n p q = ⊎-elim
-    (λ z. apart-has e g n (a .0) (among-to (letters e) n (own-has e n q)) (among-to (letters g) n (own-has g n (subst (λ y. T (among (own y) n)) z p))))
-    (λ m. ⊎-elim
-    (λ k. own-apart e f (a .1) k n p q)
-    (λ k. apart-has e g n (a .0) (among-to (letters e) n (own-has e n q)) (thread-has g f k n p))
-    (append-∈ (threads e) m))
-    (cons-∈ i)
-
--- every part has a first letter
-pub a-first : (e : Exp) → (x : Letter) × (x ∈ first e)
-unfolding first
-a-first (letter l) = (l, here refl)
-a-first (seq e f) = let (x, i) = a-first e in (x, ∈-left (only (nullable e) (first f)) i)
-a-first (alt e f) = let (x, i) = a-first e in (x, ∈-left (first f) i)
-a-first (star e) = a-first e
-a-first (pipe e f) = a-first e
-
-pub not-there : (e : Exp) (n : ℕ) → T (not (has n e)) → T (last n e) → ⊥
-not-there e n b z = let (l, i, p) = last-has n e z in T-not (has n e) b (among-at (letters e) n l i p)
-
-not-both : (e f : Exp) (x : Letter) → Apart e f → x ∈ letters f → T (not (has (x .number) e))
-not-both e f x a i = not-T (has (x .number) e) (λ h. apart-has e f (x .number) a (among-to (letters e) (x .number) h) (x, i, refl))
+use Rattle.meaning.proofs.Sets.{Within, joined-some, MetIn, enter-own, go-inside}
 
 -- ---- how many letters of a way are counted; c says which ----
 
@@ -120,6 +33,34 @@ AtLeast c o k = (qs : List ℕ) → o ≡ some qs → k ≤ count c qs
 pub count-append : (c : ℕ → Bool) (xs ys : List ℕ) → count c (xs ++ ys) ≡ count c xs + count c ys
 count-append c [] ys = omega arith
 count-append c (x ∷ xs) ys = let h = count-append c xs ys in omega (arith, h)
+
+-- a letter that is counted counts one
+pub counts-one : (b : Bool) → T b → cond b 1 0 + 0 ≡ 1
+counts-one true h = refl
+counts-one false h = absurd h
+
+one-counted : (b : Bool) (k : ℕ) → (T b → 1 ≤ k) → cond b 1 0 + 0 ≤ k
+one-counted true k h = let x = h tt in omega (arith, x)
+one-counted false k h = omega arith
+
+zero-cond : (b : Bool) (k : ℕ) → cond b 0 0 ≤ k
+zero-cond true k = omega arith
+zero-cond false k = omega arith
+
+cond-left : (ls ms : List Letter) (n k : ℕ) → cond (among ls n) k 0 ≤ cond (among (ls ++ ms) n) k 0
+cond-left ls ms n k = rw (among-append ls ms n) (by (among ls n) (among ms n))
+  where
+    by : (a b : Bool) → cond a k 0 ≤ cond (a || b) k 0
+    by true b = omega arith
+    by false b = omega arith
+
+cond-right : (ls ms : List Letter) (n k : ℕ) → cond (among ms n) k 0 ≤ cond (among (ls ++ ms) n) k 0
+cond-right ls ms n k = rw (among-append ls ms n) (by (among ls n) (among ms n))
+  where
+    by : (a b : Bool) → cond b k 0 ≤ cond (a || b) k 0
+    by true true = omega arith
+    by true false = omega arith
+    by false b = omega arith
 
 module _ (c : ℕ → Bool) where
   most-none : (k : ℕ) → AtMost c none k
@@ -137,15 +78,10 @@ module _ (c : ℕ → Bool) where
       subst (λ l. count c l ≤ j + k) e (omega (arith, x, y, z))
 
   most-cond : (b : Bool) (o q : Option (List ℕ)) (k : ℕ) → (T b → AtMost c o k) → (T (not b) → AtMost c q k) → AtMost c (cond b o q) k
-  most-cond true o q k g h = g tt
-  most-cond false o q k g h = h tt
+  most-cond b o q k = by-cond (λ z. AtMost c z k) b o q
 
   most-weak : (o : Option (List ℕ)) (j k : ℕ) → j ≤ k → AtMost c o j → AtMost c o k
   most-weak o j k l h qs p = let x = h qs p in omega (arith, x)
-
-  one-counted : (b : Bool) (k : ℕ) → (T b → 1 ≤ k) → cond b 1 0 + 0 ≤ k
-  one-counted true k h = let x = h tt in omega (arith, x)
-  one-counted false k h = omega arith
 
   -- e is asked: one of its own letters, or what K goes on with
   most-ask : (e : Exp) (K : Way) (t : Tick) (k : ℕ) → ((x : Letter) → x ∈ own e → T (c (x .number)) → 1 ≤ k) → AtMost c (K t) k → AtMost c (ask e K t) k
@@ -171,38 +107,13 @@ module _ (c : ℕ → Bool) where
   Quiet (star e) = Quiet e
   Quiet (pipe e f) = Quiet e × ((x : Letter) → x ∈ letters f → T (c (x .number)) → ⊥)
 
-  quiet-none : (e : Exp) → ((x : Letter) → x ∈ letters e → T (c (x .number)) → ⊥) → Quiet e
+  pub quiet-none : (e : Exp) → ((x : Letter) → x ∈ letters e → T (c (x .number)) → ⊥) → Quiet e
   unfolding letters
   quiet-none (letter l) h = tt
   quiet-none (seq e f) h = (quiet-none e (λ x i. h x (∈-left (letters f) i)), quiet-none f (λ x i. h x (∈-right (letters e) i)))
   quiet-none (alt e f) h = (quiet-none e (λ x i. h x (∈-left (letters f) i)), quiet-none f (λ x i. h x (∈-right (letters e) i)))
   quiet-none (star e) h = quiet-none e h
   quiet-none (pipe e f) h = (quiet-none e (λ x i. h x (∈-left (letters f) i)), λ x i. h x (∈-right (letters e) i))
-
-  zero-cond : (b : Bool) (k : ℕ) → cond b 0 0 ≤ k
-  zero-cond true k = omega arith
-  zero-cond false k = omega arith
-
-  cond-left : (ls ms : List Letter) (n k : ℕ) → cond (among ls n) k 0 ≤ cond (among (ls ++ ms) n) k 0
-  cond-left ls ms n k = rw (among-append ls ms n) (by (among ls n) (among ms n))
-    where
-      by : (a b : Bool) → cond a k 0 ≤ cond (a || b) k 0
-      by true b = omega arith
-      by false b = omega arith
-
-  cond-right : (ls ms : List Letter) (n k : ℕ) → cond (among ms n) k 0 ≤ cond (among (ls ++ ms) n) k 0
-  cond-right ls ms n k = rw (among-append ls ms n) (by (among ls n) (among ms n))
-    where
-      by : (a b : Bool) → cond b k 0 ≤ cond (a || b) k 0
-      by true true = omega arith
-      by true false = omega arith
-      by false b = omega arith
-
-  or-left : (ls ms : List Letter) (n : ℕ) → T (among ls n) → T (among (ls ++ ms) n)
-  or-left ls ms n t = subst T (sym (among-append ls ms n)) (T-or-left (among ls n) (among ms n) t)
-
-  or-right : (ls ms : List Letter) (n : ℕ) → T (among ms n) → T (among (ls ++ ms) n)
-  or-right ls ms n t = subst T (sym (among-append ls ms n)) (T-or-right (among ls n) (among ms n) t)
 
   -- Letter n of e is left: at most one own letter of e, or what K goes on with; where n stands in a thread of e, nothing that is counted.
   most-leave : (B : Exp → Bool) (n : ℕ) (e : Exp) (K : Way) (t : Tick) (k : ℕ) → T (has n e) → Quiet e → ((x : Letter) → x ∈ own e → T (c (x .number)) → 1 ≤ k)
@@ -215,13 +126,13 @@ module _ (c : ℕ → Bool) where
       by false h g = absurd h
   most-leave B n (seq e f) K t k h q o g = most-cond (has n e) _ _ _
       (λ b. most-weak _ _ _ (cond-left (own e) (own f) n k) (most-leave B n e (ask f K) t k b (q .0) (λ x i. o x (∈-left (own f) i))
-      (λ u. most-ask f K t k (λ x i. o x (∈-right (own e) i)) (g (or-left (own e) (own f) n u)))))
+      (λ u. most-ask f K t k (λ x i. o x (∈-right (own e) i)) (g (among-left (own e) (own f) n u)))))
       (λ b. most-weak _ _ _ (cond-right (own e) (own f) n k) (most-leave B n f K t k (rest-has (letters e) (letters f) n h b) (q .1) (λ x i. o x (∈-right (own e) i))
-      (λ u. g (or-right (own e) (own f) n u))))
+      (λ u. g (among-right (own e) (own f) n u))))
   most-leave B n (alt e f) K t k h q o g = most-cond (has n e) _ _ _
-      (λ b. most-weak _ _ _ (cond-left (own e) (own f) n k) (most-leave B n e K t k b (q .0) (λ x i. o x (∈-left (own f) i)) (λ u. g (or-left (own e) (own f) n u))))
+      (λ b. most-weak _ _ _ (cond-left (own e) (own f) n k) (most-leave B n e K t k b (q .0) (λ x i. o x (∈-left (own f) i)) (λ u. g (among-left (own e) (own f) n u))))
       (λ b. most-weak _ _ _ (cond-right (own e) (own f) n k) (most-leave B n f K t k (rest-has (letters e) (letters f) n h b) (q .1) (λ x i. o x (∈-right (own e) i))
-      (λ u. g (or-right (own e) (own f) n u))))
+      (λ u. g (among-right (own e) (own f) n u))))
   most-leave B n (star e) K t k h q o g = most-leave B n e (ask (star e) K) t k h q o (λ u. most-ask (star e) K t k o (g u))
   most-leave B n (pipe e f) K t k h q o g = most-cond (has n e) _ _ _
       (λ b. most-leave B n e (λ u. joined (K u) (begin B f u)) t k b (q .0) o
@@ -230,28 +141,18 @@ module _ (c : ℕ → Bool) where
       (λ x i w. absurd (q .1 x (own-letters f x i) w)) (λ u. most-over 0)))
 
   -- A last letter of e that nothing follows inside e is left: nothing but what K goes on with.
-  most-ended : (B : Exp → Bool) (n : ℕ) (e : Exp) (K : Way) (t : Tick) (k : ℕ) → Numbered e → T (among (own e) n) → T (last n e) → ((x : Letter) → x ∈ follow n e → ⊥) → Quiet e
-      → AtMost c (K t) k → AtMost c (leave B n e K t) k
-  unfolding leave own last follow
-  most-ended B n (letter l) K t k a o z f q g = g
-  most-ended B n (seq e h) K t k a o z f q g = most-cond (has n e) _ _ k
-      (λ b. ⊎-elim
-      (λ y. absurd (apart-has e h n (a .0) (among-to (letters e) n b) (last-has n h y)))
-      (λ y. let (x, i) = a-first h in absurd (f x (∈-right (follow n e ++ follow n h) (∈-only (last n e) (and-T (nullable h) (last n e) y .1) i))))
-      (or-T (last n h) (nullable h && last n e) z))
-      (λ b. most-ended B n h K t k (a .2) (own-there e h n b o)
-      (⊎-elim (λ y. y) (λ y. absurd (not-there e n b (and-T (nullable h) (last n e) y .1))) (or-T (last n h) (nullable h && last n e) z))
-      (λ x i. f x (∈-left (only (last n e) (first h)) (∈-right (follow n e) i))) (q .1) g)
-  most-ended B n (alt e h) K t k a o z f q g = most-cond (has n e) _ _ k
-      (λ b. most-ended B n e K t k (a .1) (own-here e h n (a .0) b o)
-      (⊎-elim (λ y. y) (λ y. absurd (apart-has e h n (a .0) (among-to (letters e) n b) (last-has n h y))) (or-T (last n e) (last n h) z))
-      (λ x i. f x (∈-left (follow n h) i)) (q .0) g)
-      (λ b. most-ended B n h K t k (a .2) (own-there e h n b o)
-      (⊎-elim (λ y. absurd (not-there e n b y)) (λ y. y) (or-T (last n e) (last n h) z))
-      (λ x i. f x (∈-right (follow n e) i)) (q .1) g)
-  most-ended B n (star e) K t k a o z f q g = let (x, i) = a-first e in absurd (f x (∈-right (follow n e) (∈-only (last n e) z i)))
-  most-ended B n (pipe e h) K t k a o z f q g = most-cond (has n e) _ _ k
-      (λ b. most-ended B n e (λ u. joined (K u) (begin B h u)) t k (a .1) o z (λ x i. f x (∈-left (follow n h) i)) (q .0)
+  most-ended : (B : Exp → Bool) (n : ℕ) (e : Exp) (K : Way) (t : Tick) (k : ℕ) → Numbered e → T (among (own e) n) → Ends n e → Quiet e → AtMost c (K t) k → AtMost c (leave B n e K t) k
+  unfolding leave own
+  most-ended B n (letter l) K t k a o z q g = g
+  most-ended B n (seq e h) K t k a o z q g =
+      let (b, w) = seq-ends n e h (a .0) z in
+      most-cond (has n e) _ _ k (λ d. absurd (T-not (has n e) b d)) (λ d. most-ended B n h K t k (a .2) (own-there e h n d o) w (q .1) g)
+  most-ended B n (alt e h) K t k a o z q g =
+      let (v, w) = alt-ends n e h (a .0) z in
+      most-cond (has n e) _ _ k (λ d. most-ended B n e K t k (a .1) (own-here e h n (a .0) d o) (v d) (q .0) g) (λ d. most-ended B n h K t k (a .2) (own-there e h n d o) (w d) (q .1) g)
+  most-ended B n (star e) K t k a o z q g = absurd (star-ends n e z)
+  most-ended B n (pipe e h) K t k a o z q g = most-cond (has n e) _ _ k
+      (λ b. most-ended B n e (λ u. joined (K u) (begin B h u)) t k (a .1) o (pipe-ends n e h z) (q .0)
       (most-weak _ (k + 0) k (omega arith) (most-joined (K t) (begin B h t) k 0 g (most-begin B h t 0 (λ x i w. absurd (q .1 x (own-letters h x i) w))))))
       (λ b. absurd (T-not (has n e) b (own-has e n o)))
 
@@ -261,8 +162,7 @@ module _ (c : ℕ → Bool) where
   least-none k qs p = absurd (Option·none-ne-some qs p)
 
   least-cond : (b : Bool) (o q : Option (List ℕ)) (k : ℕ) → (T b → AtLeast c o k) → (T (not b) → AtLeast c q k) → AtLeast c (cond b o q) k
-  least-cond true o q k g h = g tt
-  least-cond false o q k g h = h tt
+  least-cond b o q k = by-cond (λ z. AtLeast c z k) b o q
 
   least-joined : (o q : Option (List ℕ)) (k : ℕ) → AtLeast c o k → AtLeast c (joined o q) k
   least-joined o q k g ns p =
@@ -270,10 +170,6 @@ module _ (c : ℕ → Bool) where
       let x = g cs a in
       let z = count-append c cs bs in
       subst (λ l. k ≤ count c l) e (omega (arith, x, z))
-
-  one-at-least : (b : Bool) → T b → 1 ≤ cond b 1 0 + 0
-  one-at-least true h = omega arith
-  one-at-least false h = absurd h
 
   -- c counts every own letter of e
   abbrev pub Counts : Exp → Type 0
@@ -283,7 +179,7 @@ module _ (c : ℕ → Bool) where
   least-ask e K t s h g = by (enter e t) refl (enter-own (λ n. T (c n)) e t h)
     where
       by : (a : Entered) → enter e t ≡ a → MetIn (λ n. T (c n)) a → AtLeast c (goesBy a (K t)) 1
-      by (met n) p u = λ qs q. subst (λ z. 1 ≤ count c z) (Option·some-injective (n ∷ []) qs q) (one-at-least (c n) u)
+      by (met n) p u = λ qs q. subst (λ z. 1 ≤ count c z) (Option·some-injective (n ∷ []) qs q) ((let x = counts-one (c n) u in omega (arith, x)))
       by passed p u = g (passed-nullable e s t p)
       by blocked p u = least-none 1
 
@@ -305,18 +201,18 @@ module _ (c : ℕ → Bool) where
   -- One that is not a last letter of e: an own letter of e, whatever follows e.
   least-on : (B : Exp → Bool) (n : ℕ) (e : Exp) (K : Way) (t : Tick) → Solid e → Numbered e → T (among (own e) n) → T (not (last n e)) → Counts e → AtLeast c (leave B n e K t) 1
   unfolding leave own last
-  least-on B n (letter l) K t s a o z h = absurd (T-not (eqb n (l .number)) z (⊎-elim (λ y. y) (λ y. absurd y) (or-T (eqb n (l .number)) false o)))
+  least-on B n (letter l) K t s a o z h = absurd (T-not (eqb n (l .number)) z (one-own l n o))
   least-on B n (seq e f) K t s a o z h = least-cond (has n e) _ _ 1
-      (λ b. by (nullable f) refl (own-here e f n (a .0) b o) (λ y. least-on B n e (ask f K) t (s .0) (a .1) (own-here e f n (a .0) b o) y (λ x i. h x (∈-left (own f) i))))
-      (λ b. least-on B n f K t (s .1) (a .2) (own-there e f n b o) (not-T (last n f) (λ y. T-not (last n f || (nullable f && last n e)) z (T-or-left (last n f) _ y))) (λ x i. h x (∈-right (own e) i)))
-    where
-      by : (b : Bool) → nullable f ≡ b → T (among (own e) n) → (T (not (last n e)) → AtLeast c (leave B n e (ask f K) t) 1) → AtLeast c (leave B n e (ask f K) t) 1
-      by true p o′ g = g (not-T (last n e) (λ y. T-not (last n f || (nullable f && last n e)) z (T-or-right (last n f) _ (T-and (nullable f) (last n e) (rw p tt) y))))
-      by false p o′ g = least-leave B n e (ask f K) t (s .0) (a .1) o′ (λ x i. h x (∈-left (own f) i))
-          (least-ask f K t (s .1) (λ x i. h x (∈-right (own e) i)) (λ u. absurd (rw p at u)))
-  least-on B n (alt e f) K t s a o z h = least-cond (has n e) _ _ 1
-      (λ b. least-on B n e K t (s .0) (a .1) (own-here e f n (a .0) b o) (not-T (last n e) (λ y. T-not (last n e || last n f) z (T-or-left (last n e) _ y))) (λ x i. h x (∈-left (own f) i)))
-      (λ b. least-on B n f K t (s .1) (a .2) (own-there e f n b o) (not-T (last n f) (λ y. T-not (last n e || last n f) z (T-or-right (last n e) _ y))) (λ x i. h x (∈-right (own e) i)))
+      (λ b. by-test (nullable f)
+      (λ y. least-on B n e (ask f K) t (s .0) (a .1) (own-here e f n (a .0) b o) (seq-not-last n e f z .1 y) (λ x i. h x (∈-left (own f) i)))
+      (λ y. least-leave B n e (ask f K) t (s .0) (a .1) (own-here e f n (a .0) b o) (λ x i. h x (∈-left (own f) i))
+      (least-ask f K t (s .1) (λ x i. h x (∈-right (own e) i)) (λ v. absurd (T-not (nullable f) y v)))))
+      (λ b. least-on B n f K t (s .1) (a .2) (own-there e f n b o) (seq-not-last n e f z .0) (λ x i. h x (∈-right (own e) i)))
+  least-on B n (alt e f) K t s a o z h =
+      let (v, w) = alt-not-last n e f z in
+      least-cond (has n e) _ _ 1
+      (λ b. least-on B n e K t (s .0) (a .1) (own-here e f n (a .0) b o) v (λ x i. h x (∈-left (own f) i)))
+      (λ b. least-on B n f K t (s .1) (a .2) (own-there e f n b o) w (λ x i. h x (∈-right (own e) i)))
   least-on B n (star e) K t s a o z h = least-on B n e (ask (star e) K) t (s .1) a o z h
   least-on B n (pipe e f) K t s a o z h = least-cond (has n e) _ _ 1
       (λ b. least-on B n e (λ u. joined (K u) (begin B f u)) t (s .2) (a .1) o z h)
@@ -383,9 +279,9 @@ module _ (f : Exp) where
   other B n e K t k h z g = most-weak (among (own f)) _ _ k (cond-most (among (own e) n) k)
       (most-leave (among (own f)) B n e K t k h (quiet-none (among (own f)) e z) (λ x i w. absurd (z x (own-letters e x i) w)) g)
 
-  -- the part e around f is asked
-  asked : (e g : Exp) (K : Way) (t : Tick) (k : ℕ) → ((x : Letter) → x ∈ own g → T (among (own f) (x .number)) → ⊥) → AtMost (among (own f)) (K t) k → AtMost (among (own f)) (ask g K t) k
-  asked e g K t k z h = most-ask (among (own f)) g K t k (λ x i w. absurd (z x i w)) h
+  -- a part is asked that has no letter of f of its own
+  asked : (g : Exp) (K : Way) (t : Tick) (k : ℕ) → ((x : Letter) → x ∈ own g → T (among (own f) (x .number)) → ⊥) → AtMost (among (own f)) (K t) k → AtMost (among (own f)) (ask g K t) k
+  asked g K t k z h = most-ask (among (own f)) g K t k (λ x i w. absurd (z x i w)) h
 
   own-away : (e : Exp) → Numbered e → f ∈ threads e → (x : Letter) → x ∈ own e → T (among (own f) (x .number)) → ⊥
   own-away e a i x j w = own-apart e f a i (x .number) w (among-from (own e) x j)
@@ -407,7 +303,7 @@ module _ (f : Exp) where
       quiet = quiet-own (among (own f)) f a (λ x i w. w)
 
       by : (o : Bool) → among (own f) n ≡ o → (b : Bool) → last n f ≡ b → AtMost (among (own f)) (leave B n f over t) (cond (o && not b) 1 0)
-      by true p true q = most-ended (among (own f)) B n f over t 0 a (rw p tt) (rw q tt) (λ x. z n x (rw q tt)) quiet (most-over (among (own f)) 0)
+      by true p true q = most-ended (among (own f)) B n f over t 0 a (rw p tt) (rw q tt, λ x. z n x (rw q tt)) quiet (most-over (among (own f)) 0)
       by true p false q = rw p at (most-leave (among (own f)) B n f over t 1 h quiet (λ x i w. omega arith) (λ u. most-over (among (own f)) 1))
       by false p b q = rw p at (most-leave (among (own f)) B n f over t 1 h quiet (λ x i w. omega arith) (λ u. most-over (among (own f)) 1))
 
@@ -419,32 +315,32 @@ module _ (f : Exp) where
     inl (λ n u. u),
     λ B n K t k h g. most-cond (among (own f)) (has n e) _ _ _
         (λ b. most-weak (among (own f)) _ _ _ (by B n k (among (own e) n))
-        (most-leave (among (own f)) B n e (λ u. joined (K u) (begin B f u)) t (k + cond (not (B f)) 1 0) b (quiet-none (among (own f)) e (out e))
-        (λ x i w. absurd (out e x (own-letters e x i) w))
+        (most-leave (among (own f)) B n e (λ u. joined (K u) (begin B f u)) t (k + cond (not (B f)) 1 0) b (quiet-none (among (own f)) e out)
+        (λ x i w. absurd (out x (own-letters e x i) w))
         (λ u. most-joined (among (own f)) (K t) (begin B f t) k (cond (not (B f)) 1 0) (g u) (begun B t))))
         (λ b. most-weak (among (own f)) _ _ _ (omega arith) (inside B n t (a .2) (z .0) (rest-has (letters e) (letters f) n h b))),
   )
     where
-      out : (e′ : Exp) → Away e
-      out e′ x i w = apart-has e f (x .number) (a .0) (x, i, refl) (among-to (letters f) (x .number) (own-has f (x .number) w))
+      out : Away e
+      out x i w = apart-has e f (x .number) (a .0) (x, i, refl) (among-to (letters f) (x .number) (own-has f (x .number) w))
 
       by : (B : Exp → Bool) (n k : ℕ) (o : Bool) → cond o (k + cond (not (B f)) 1 0) 0 ≤ k + (cond (underWay n f) 1 0 + cond (o && not (B f)) 1 0)
       by B n k true = omega arith
       by B n k false = omega arith
 
   -- e stands in h, with its threads
-  line-left : (e g h : Exp) (ls : List Letter) → Sub (own e) (own h) → ((y : Exp) → y ∈ threads e → y ∈ threads h) → LineOf e ls → LineOf h ls
-  line-left e g h ls o u (inl s) = inl (λ n w. o n (s n w))
-  line-left e g h ls o u (inr (y, i, s)) = inr (y, u y i, s)
+  line-up : (e h : Exp) (ls : List Letter) → Sub (own e) (own h) → ((y : Exp) → y ∈ threads e → y ∈ threads h) → LineOf e ls → LineOf h ls
+  line-up e h ls o u (inl s) = inl (λ n w. o n (s n w))
+  line-up e h ls o u (inr (y, i, s)) = inr (y, u y i, s)
 
   in-thread : (e g : Exp) (ls : List Letter) → LineOf g ls → (y : Exp) × (y ∈ g ∷ (threads e ++ threads g)) × Sub ls (own y)
   in-thread e g ls (inl s) = (g, here refl, s)
   in-thread e g ls (inr (y, i, s)) = (y, there (∈-right (threads e) i), s)
 
   -- another thread g is started
-  behind : (B : Exp → Bool) (e g : Exp) (K : Way) (t : Tick) (k : ℕ) → ((x : Letter) → x ∈ own g → T (among (own f) (x .number)) → ⊥) → AtMost (among (own f)) (K t) k
+  behind : (B : Exp → Bool) (g : Exp) (K : Way) (t : Tick) (k : ℕ) → ((x : Letter) → x ∈ own g → T (among (own f) (x .number)) → ⊥) → AtMost (among (own f)) (K t) k
       → AtMost (among (own f)) (joined (K t) (begin B g t)) k
-  behind B e g K t k z h = most-weak (among (own f)) _ (k + 0) k (omega arith)
+  behind B g K t k z h = most-weak (among (own f)) _ (k + 0) k (omega arith)
       (most-joined (among (own f)) (K t) (begin B g t) k 0 h (most-begin (among (own f)) B g t 0 (λ x i w. absurd (z x i w))))
 
   -- f stands somewhere in e
@@ -454,53 +350,53 @@ module _ (f : Exp) where
   starts (seq e g) a z i = ⊎-elim
       (λ j. let (ls, w, u) = starts e (a .1) (z .0) j in (
         ls,
-        line-left e g (seq e g) ls (λ n. or-left (among (own f)) (own e) (own g) n) (λ y. ∈-left (threads g)) w,
+        line-up e (seq e g) ls (λ n. among-left (own e) (own g) n) (λ y. ∈-left (threads g)) w,
         λ B n K t k h q. most-cond (among (own f)) (has n e) _ _ _
-            (λ b. u B n (ask g K) t k b (λ o. asked e g K t k (λ x m. away-right e g (a .0) j x (own-letters g x m)) (q (or-left (among (own f)) (own e) (own g) n o))))
-            (λ b. most-weak (among (own f)) _ k _ (omega arith) (other B n g K t k (rest-has (letters e) (letters g) n h b) (away-right e g (a .0) j) (λ o. q (or-right (among (own f)) (own e) (own g) n o)))),
+            (λ b. u B n (ask g K) t k b (λ o. asked g K t k (λ x m. away-right e g (a .0) j x (own-letters g x m)) (q (among-left (own e) (own g) n o))))
+            (λ b. most-weak (among (own f)) _ k _ (omega arith) (other B n g K t k (rest-has (letters e) (letters g) n h b) (away-right e g (a .0) j) (λ o. q (among-right (own e) (own g) n o)))),
       ))
       (λ j. let (ls, w, u) = starts g (a .2) (z .1) j in (
         ls,
-        line-left g e (seq e g) ls (λ n. or-right (among (own f)) (own e) (own g) n) (λ y. ∈-right (threads e)) w,
+        line-up g (seq e g) ls (λ n. among-right (own e) (own g) n) (λ y. ∈-right (threads e)) w,
         λ B n K t k h q. most-cond (among (own f)) (has n e) _ _ _
             (λ b. most-weak (among (own f)) _ k _ (omega arith) (other B n e (ask g K) t k b (away-left e g (a .0) j)
-            (λ o. asked e g K t k (own-away g (a .2) j) (q (or-left (among (own f)) (own e) (own g) n o)))))
-            (λ b. u B n K t k (rest-has (letters e) (letters g) n h b) (λ o. q (or-right (among (own f)) (own e) (own g) n o))),
+            (λ o. asked g K t k (own-away g (a .2) j) (q (among-left (own e) (own g) n o)))))
+            (λ b. u B n K t k (rest-has (letters e) (letters g) n h b) (λ o. q (among-right (own e) (own g) n o))),
       ))
       (append-∈ (threads e) i)
   starts (alt e g) a z i = ⊎-elim
       (λ j. let (ls, w, u) = starts e (a .1) (z .0) j in (
         ls,
-        line-left e g (alt e g) ls (λ n. or-left (among (own f)) (own e) (own g) n) (λ y. ∈-left (threads g)) w,
+        line-up e (alt e g) ls (λ n. among-left (own e) (own g) n) (λ y. ∈-left (threads g)) w,
         λ B n K t k h q. most-cond (among (own f)) (has n e) _ _ _
-            (λ b. u B n K t k b (λ o. q (or-left (among (own f)) (own e) (own g) n o)))
-            (λ b. most-weak (among (own f)) _ k _ (omega arith) (other B n g K t k (rest-has (letters e) (letters g) n h b) (away-right e g (a .0) j) (λ o. q (or-right (among (own f)) (own e) (own g) n o)))),
+            (λ b. u B n K t k b (λ o. q (among-left (own e) (own g) n o)))
+            (λ b. most-weak (among (own f)) _ k _ (omega arith) (other B n g K t k (rest-has (letters e) (letters g) n h b) (away-right e g (a .0) j) (λ o. q (among-right (own e) (own g) n o)))),
       ))
       (λ j. let (ls, w, u) = starts g (a .2) (z .1) j in (
         ls,
-        line-left g e (alt e g) ls (λ n. or-right (among (own f)) (own e) (own g) n) (λ y. ∈-right (threads e)) w,
+        line-up g (alt e g) ls (λ n. among-right (own e) (own g) n) (λ y. ∈-right (threads e)) w,
         λ B n K t k h q. most-cond (among (own f)) (has n e) _ _ _
-            (λ b. most-weak (among (own f)) _ k _ (omega arith) (other B n e K t k b (away-left e g (a .0) j) (λ o. q (or-left (among (own f)) (own e) (own g) n o))))
-            (λ b. u B n K t k (rest-has (letters e) (letters g) n h b) (λ o. q (or-right (among (own f)) (own e) (own g) n o))),
+            (λ b. most-weak (among (own f)) _ k _ (omega arith) (other B n e K t k b (away-left e g (a .0) j) (λ o. q (among-left (own e) (own g) n o))))
+            (λ b. u B n K t k (rest-has (letters e) (letters g) n h b) (λ o. q (among-right (own e) (own g) n o))),
       ))
       (append-∈ (threads e) i)
   starts (star e) a z i = let (ls, w, u) = starts e a z i in
-      (ls, line-left e e (star e) ls (λ n o. o) (λ y m. m) w, λ B n K t k h q. u B n (ask (star e) K) t k h (λ o. asked e (star e) K t k (own-away e a i) (q o)))
+      (ls, line-up e (star e) ls (λ n o. o) (λ y m. m) w, λ B n K t k h q. u B n (ask (star e) K) t k h (λ o. asked (star e) K t k (own-away e a i) (q o)))
   starts (pipe e g) a z i = ⊎-elim
       (λ p. subst (λ y. Numbered (pipe e y) → Closed (pipe e y) → Starts (pipe e y)) p (at-pipe e) a z)
       (λ m. ⊎-elim
       (λ j. let (ls, w, u) = starts e (a .1) (z .1) j in (
         ls,
-        line-left e g (pipe e g) ls (λ n o. o) (λ y l. there (∈-left (threads g) l)) w,
+        line-up e (pipe e g) ls (λ n o. o) (λ y l. there (∈-left (threads g) l)) w,
         λ B n K t k h q. most-cond (among (own f)) (has n e) _ _ _
-            (λ b. u B n (λ v. joined (K v) (begin B g v)) t k b (λ o. behind B e g K t k (λ x l. away-right e g (a .0) j x (own-letters g x l)) (q o)))
+            (λ b. u B n (λ v. joined (K v) (begin B g v)) t k b (λ o. behind B g K t k (λ x l. away-right e g (a .0) j x (own-letters g x l)) (q o)))
             (λ b. most-weak (among (own f)) _ 0 _ (omega arith) (other B n g over t 0 (rest-has (letters e) (letters g) n h b) (away-right e g (a .0) j) (λ o. most-over (among (own f)) 0))),
       ))
       (λ j. let (ls, w, u) = starts g (a .2) (z .2) j in (
         ls,
         inr (in-thread e g ls w),
         λ B n K t k h q. most-cond (among (own f)) (has n e) _ _ _
-            (λ b. most-weak (among (own f)) _ k _ (omega arith) (other B n e (λ v. joined (K v) (begin B g v)) t k b (away-left e g (a .0) j) (λ o. behind B e g K t k (own-away g (a .2) j) (q o))))
+            (λ b. most-weak (among (own f)) _ k _ (omega arith) (other B n e (λ v. joined (K v) (begin B g v)) t k b (away-left e g (a .0) j) (λ o. behind B g K t k (own-away g (a .2) j) (q o))))
             (λ b. most-weak (among (own f)) _ _ _ (omega arith) (u B n over t 0 (rest-has (letters e) (letters g) n h b) (λ o. most-over (among (own f)) 0))),
       ))
       (append-∈ (threads e) m))
@@ -581,7 +477,7 @@ module _ (A B : Exp → Bool) (t : Tick) (qs : List ℕ) where
       let (cs, bs, a, b, e) = joined-some (K t) (M t) ks p in
       ap₂ joined (g cs (λ k i. w k (subst (λ l. k ∈ l) e (∈-left bs i))) a) (h bs (λ k i. w k (subst (λ l. k ∈ l) e (∈-right cs i))) b) ∙ ap some e
 
-  pub keeps-leave : (n : ℕ) (e : Exp) (K L : Way) → Solid e → Numbered e → T (has n e) → Lets n e → Keeps K L → Keeps (leave A n e K) (leave B n e L)
+  keeps-leave : (n : ℕ) (e : Exp) (K L : Way) → Solid e → Numbered e → T (has n e) → Lets n e → Keeps K L → Keeps (leave A n e K) (leave B n e L)
   unfolding leave letters threads
   keeps-leave n (letter l) K L s a h d g ks w p = g ks w p
   keeps-leave n (seq e f) K L s a h d g ks w p = keeps-cond (has n e)
@@ -642,19 +538,19 @@ pub record Single (m : Exp) (ns : List ℕ) : Type 0 where
   pub line : required m ns ≤ 1
   pub each : (f : Exp) → f ∈ threads m → required f ns ≤ 1
 
--- so no thread is occupied
-single-admits : (m : Exp) (ns : List ℕ) → Single m ns → T (admits m ns)
+-- where no thread has two letters none is occupied
+pub not-occupied : (m : Exp) (ns : List ℕ) → ((f : Exp) → f ∈ threads m → required f ns ≤ 1) → T (not (occupied m ns))
 unfolding occupied
-single-admits m ns one = not-T (occupied m ns) (λ w.
+not-occupied m ns h = not-T (occupied m ns) (λ w.
     let (f, i, u) = any-to (λ f. leb 2 (required f ns)) (threads m) w in
-    let x = one .each f i in
+    let x = h f i in
     let y = leb→le 2 (required f ns) u in
     omega (arith, x, y))
 
-counted-one : (c : ℕ → Bool) (k : ℕ) (ks : List ℕ) → k ∈ ks → T (c k) → 1 ≤ count c ks
+pub counted-one : (c : ℕ → Bool) (k : ℕ) (ks : List ℕ) → k ∈ ks → T (c k) → 1 ≤ count c ks
 counted-one c k [] i h = absurd (no-∈ i)
 counted-one c k (n ∷ ks) i h = ⊎-elim
-    (λ p. let x = one-at-least c (c n) (subst (λ y. T (c y)) p h) in omega (arith, x))
+    (λ p. let x = counts-one (c n) (subst (λ y. T (c y)) p h) in omega (arith, x))
     (λ j. let x = counted-one c k ks j h in omega (arith, x))
     (cons-∈ i)
 
@@ -741,10 +637,10 @@ module _ (m : Exp) (ac : Accepted m) (ns : List ℕ) (known : (k : ℕ) → k �
       (λ js v r. r) ks (λ k j. j) q) p
 
   admitted : (os : List ℕ) → goAll (Go (busy ns)) ns t ≡ some os → T (admits m os)
-  admitted os p = single-admits m os (record { line = one-line os p; each = λ f i. few f i os p })
+  admitted os p = not-occupied m os (λ f i. few f i os p)
 
   -- The machine that keeps busy threads shut goes as the one that counts.
-  pub go-counted : go m (on ns) t ≡ goCounted m (on ns) t
+  go-counted : go m (on ns) t ≡ goCounted m (on ns) t
   unfolding go goIdle
   go-counted = by (goAll (Go (busy ns)) ns t) refl (goAll (Go idle) ns t) refl
     where
@@ -758,7 +654,7 @@ module _ (m : Exp) (ac : Accepted m) (ns : List ℕ) (known : (k : ℕ) → k �
           other-way false r = refl
 
   -- and leaves each thread one letter at most
-  pub stays-single : (os : List ℕ) → go m (on ns) t ≡ some os → Single m os
+  stays-single : (os : List ℕ) → go m (on ns) t ≡ some os → Single m os
   unfolding go
   stays-single os p = record { line = one-line os p; each = λ f i. few f i os p }
 
@@ -770,7 +666,7 @@ Steady m at-start = Unit {0}
 Steady m (on ns) = ((k : ℕ) → k ∈ ns → Has k m) × Single m ns
 
 one-only : (c : ℕ → Bool) (n : ℕ) → count c (n ∷ []) ≤ 1
-one-only c n = one-counted c (c n) 1 (λ u. omega arith)
+one-only c n = one-counted (c n) 1 (λ u. omega arith)
 
 one-single : (m : Exp) (n : ℕ) → Single m (n ∷ [])
 one-single m n = record { line = one-only (among (own m)) n; each = λ f i. one-only (among (own f)) n }
@@ -778,7 +674,7 @@ one-single m n = record { line = one-only (among (own m)) n; each = λ f i. one-
 module _ (m : Exp) (ac : Accepted m) where
   begins : (t : Tick) (a : Entered) → (passing (admits m) (goesBy a none) ≡ goesBy a none) × ((os : List ℕ) → goesBy a none ≡ some os → Single m os)
   begins t (met n) =
-      (ap (λ b. cond b (some (n ∷ [])) none) (is-true (admits m (n ∷ [])) (single-admits m (n ∷ []) (one-single m n))), λ os p. subst (Single m) (Option·some-injective (n ∷ []) os p) (one-single m n))
+      (ap (λ b. cond b (some (n ∷ [])) none) (is-true (admits m (n ∷ [])) (not-occupied m (n ∷ []) (one-single m n .each))), λ os p. subst (Single m) (Option·some-injective (n ∷ []) os p) (one-single m n))
   begins t passed = (refl, λ os p. absurd (Option·none-ne-some os p))
   begins t blocked = (refl, λ os p. absurd (Option·none-ne-some os p))
 

@@ -28,6 +28,8 @@ use Rattle.meaning.proofs.ListLaws.{clash, cons-∈, no-∈, one-∈, m
 use Rattle.meaning.proofs.Numbering.{renumbered-size, renumbered-rows, renumbered-ordered}
 use Rattle.meaning.proofs.Rows.{rows-no-more, program-held}
 use Rattle.meaning.proofs.RowCount.{rows-below-1024, total-renumbered}
+use Rattle.meaning.proofs.Monitor as one
+use Rattle.meaning.proofs.Accept.{accept}
 use Rattle.meaning.proofs.Rules.{unsatisfiable-at, ambiguous-at}
 use Rattle.meaning.proofs.Calls.{Alike, calls-right, states-right}
 use Rattle.meaning.proofs.Watch.{Tracks}
@@ -126,6 +128,9 @@ module _ (text : List ℕ) (o : Opened) (e : openText text ≡ value o) where
   all-read m i =
       let (d, j, p) = map-∈ (renumbered 0) (a .program .monitors) (subst (λ ms. m ∈ ms) numbered i) in
       (subst (Ordered 0) p (renumbered-ordered 0 d), a .shaped m i)
+
+  pub all-accepted : (m : Exp) → m ∈ o .monitors → one.Accepted m
+  all-accepted m i = let (d, s) = all-read m i in accept m d s
 
   row-count : total rows (o .monitors) ≡ o .rowCount
   unfolding asOpened

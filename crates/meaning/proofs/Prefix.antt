@@ -1,17 +1,17 @@
 -- A star and a monitor unrolled, whatever their shape: the bound on rounds changes nothing. And what fits, fits up to each of its words.
 use mathlib.Core.List.{List, [], _∷_, _++_, map, append-nil, append-assoc}
-use mathlib.Core.Bool.{Bool, true, not}
-use mathlib.Core.Path.{_≡_, refl, sym, ap, ap₂, _∙_, subst}
+use mathlib.Core.Bool.{Bool, true}
+use mathlib.Core.Path.{_≡_, refl, sym, ap, _∙_, subst}
 use mathlib.Core.Logic.{_⊎_, inl, inr, ⊎-elim, _↔_}
 use Prim.Native.Nat.{ℕ, zero, suc, _≤_, _<_}
 use native.Mathlib.Omega.{arith}
 use lib.Dec.{T, ltb, ltb→lt, lt→ltb}
 use lib.ListN.{length}
-use Rattle.meaning.specs.Lists.{_∈_, carry, null, only}
+use Rattle.meaning.specs.Lists.{_∈_, carry, only}
 use Rattle.meaning.specs.Expression.{Exp, letter, seq, alt, star, pipe}
 use Rattle.meaning.specs.Fit.{Tick, meets, Run, Rest, pastTheEnd, anything, nothing, merge, both, rounds, runs, branches, fits, History, tick, start, onward, history}
-use Rattle.meaning.proofs.ListLaws.{carry-append, here, append-∈, ∈-left, ∈-right, ∈-map, map-∈, no-∈, ∈-only, only-∈, clash}
-use Rattle.meaning.proofs.Step.{ended, ∈-both, both-∈}
+use Rattle.meaning.proofs.ListLaws.{carry-append, here, append-∈, ∈-left, ∈-right, ∈-map, map-∈, no-∈, ∈-only, only-∈}
+use Rattle.meaning.proofs.Step.{∈-both, both-∈}
 use Rattle.meaning.proofs.Monitor.{Accepted, fits-prefix}
 
 -- ---- there is a run ----

@@ -1,27 +1,28 @@
 -- What F17 takes for granted of a start of a thread, proved of its runs in every accepted monitor: where there is a word it begins with a letter, it requires one letter a tick for so many
 -- ticks, and none behind them (`start-requires`); what follows a letter of it (`after` in proofs/Active) begins with another one unless that letter is a last one of the thread, and has none if
--- it is (`behind-other`, `behind-last`). The letters of starts that run at once add up (`merge-at`). Each letter is required by the part itself or by a thread in it (`required-by`), and not by both (`own-apart` in
--- proofs/Occupied).
-use mathlib.Core.List.{List, [], _∷_, _++_, map}
-use mathlib.Core.Bool.{Bool, true, false, not, cond, _&&_, _||_}
+-- it is (`behind-other`, `behind-last`; proofs/StartEnds says it of runs). The letters of starts that run at once add up (`merge-at`). Each letter of a thread is required by the thread itself or by a
+-- thread in it, and not by both (`innermost`). So `Fit` says what F17 asks (`fits-exactly`).
+use mathlib.Core.List.{List, [], _∷_}
+use mathlib.Core.Bool.{Bool, true, false, not, cond}
 use mathlib.Core.Path.{_≡_, refl, sym, ap, ap₂, _∙_, subst}
 use mathlib.Core.Logic.{_⊎_, inl, inr, ⊎-elim, _↔_}
 use Prim.Native.Nat.{ℕ, zero, suc, _+_, _-_, _<_, _≤_}
 use native.Mathlib.Omega.{arith}
-use lib.Dec.{T, T-not, not-T, eqb, ltb, leb, leb→le}
+use lib.Dec.{T, T-not, eqb, ltb, leb}
 use borrow.Author.Tests.{ltb-true, ltb-false, leb-false}
 use lib.ListN.{length, getD}
-use Rattle.meaning.specs.Lists.{_∈_, count, null, only}
+use Rattle.meaning.specs.Lists.{_∈_, count, null}
 use Rattle.meaning.specs.Expression.{Letter, Exp, letter, seq, alt, star, pipe, letters, own}
-use Rattle.meaning.specs.Shape.{nullable, first, last, follow, threads}
+use Rattle.meaning.specs.Shape.{nullable, first, last, threads}
 use Rattle.meaning.specs.Fit.{Tick, meets, Run, Rest, pastTheEnd, anything, merge, both, rounds, runs, branches, among, required, occupied, unoccupied, monitor, fits}
 use Rattle.meaning.specs.Positions.{has}
-use Rattle.meaning.proofs.ListLaws.{here, there, cons-∈, no-∈, append-∈, ∈-left, ∈-right, map-∈, one-∈, ∈-only, only-∈, T-and, and-T, or-T, T-or-left, T-or-right, any-from, any-to, is-false, clash}
+use Rattle.meaning.proofs.ListLaws.{here, there, append-∈, ∈-left, ∈-right, map-∈, one-∈, only-∈, T-and, and-T, T-or-left, T-or-right, any-from, is-false, by-test, clash}
 use Rattle.meaning.proofs.Step.{Solid, ended, both-∈}
-use Rattle.meaning.proofs.OneWay.{Numbered, Closed, last-has, apart-has}
+use Rattle.meaning.proofs.OneWay.{Numbered}
+use Rattle.meaning.proofs.Threads.{thread-solid, thread-numbered, thread-closed, among-from, own-apart, own-has, own-here, own-there, one-own, Ends, seq-ends, alt-ends, star-ends, pipe-ends, seq-not-last, alt-not-last}
 use Rattle.meaning.proofs.Active.{after}
 use Rattle.meaning.proofs.Monitor.{Accepted, ∈-keep, keep-∈, not-null}
-use Rattle.meaning.proofs.Occupied.{among-to, among-from, count-append, Quiet, Counts, quiet-own, own-has, own-here, own-there, a-first, not-there}
+use Rattle.meaning.proofs.Occupied.{count-append, counts-one, Quiet, Counts, quiet-own, not-occupied}
 
 -- ---- a run, tick by tick; c says which letters are counted
 
@@ -39,11 +40,19 @@ module _ (c : ℕ → Bool) where
   merge-at (a ∷ r) (b ∷ s) (suc k) = merge-at r s k
 
   -- none of what K does is counted
-  abbrev Silent : Rest → Type 0
+  abbrev pub Silent : Rest → Type 0
   Silent K = (ts : List Tick) (r : Run) → r ∈ K ts → (k : ℕ) → at r k ≡ 0
 
-  past-silent : (r : Run) → r ∈ pastTheEnd → (k : ℕ) → at r k ≡ 0
+  pub past-silent : (r : Run) → r ∈ pastTheEnd → (k : ℕ) → at r k ≡ 0
   past-silent r i k = ap (λ z. at z k) (one-∈ i)
+
+  pub both-silent : (K L : Rest) → Silent K → Silent L → Silent (λ us. both (K us) (L us))
+  both-silent K L g h us q w m =
+      let (a, b, x, y, p) = both-∈ (K us) (L us) w in
+      ap (λ v. at v m) p ∙ merge-at a b m ∙ ap₂ _+_ (g us a x m) (h us b y m)
+
+  pub anything-silent : Silent anything
+  anything-silent ts = past-silent
 
   rounds-silent : (e : Exp) (K : Rest) → ((L : Rest) → Silent L → Silent (runs e L)) → Silent K → (n : ℕ) → Silent (rounds (runs e) K n)
   unfolding rounds
@@ -52,7 +61,7 @@ module _ (c : ℕ → Bool) where
   rounds-silent e K g z (suc n) (t ∷ ts) r i k = ⊎-elim (λ j. z (t ∷ ts) r j k) (λ j. g (rounds (runs e) K n) (rounds-silent e K g z n) (t ∷ ts) r j k) (append-∈ (K (t ∷ ts)) i)
 
   -- nor of e, then
-  silent : (e : Exp) → ((x : Letter) → x ∈ letters e → c (x .number) ≡ false) → (K : Rest) → Silent K → Silent (runs e K)
+  pub silent : (e : Exp) → ((x : Letter) → x ∈ letters e → c (x .number) ≡ false) → (K : Rest) → Silent K → Silent (runs e K)
   unfolding runs letters
   silent (letter l) h K z [] r i k = past-silent r i k
   silent (letter l) h K z (t ∷ ts) r i k =
@@ -71,9 +80,14 @@ module _ (c : ℕ → Bool) where
   silent (star e) h K z ts r i k = rounds-silent e K (silent e h) z (length ts) ts r i k
   silent (pipe e f) h K z ts r i k =
       silent e (λ x j. h x (∈-left (letters f) j)) (λ us. both (K us) (runs f anything us))
-      (λ us q w m. let (a, b, x, y, p) = both-∈ (K us) (runs f anything us) w in
-      ap (λ v. at v m) p ∙ merge-at a b m ∙ ap₂ _+_ (z us a x m) (silent f (λ x j. h x (∈-right (letters e) j)) anything (λ vs s w. past-silent s w) us b y m))
-      ts r i k
+      (both-silent K (runs f anything) z (silent f (λ x j. h x (∈-right (letters e) j)) anything anything-silent)) ts r i k
+
+  -- a thread of which no letter is counted
+  abbrev pub Uncounted : Exp → Type 0
+  Uncounted f = (x : Letter) → x ∈ letters f → T (c (x .number)) → ⊥
+
+  pub thread-silent : (f : Exp) → Uncounted f → Silent (runs f anything)
+  thread-silent f z = silent f (λ x j. is-false (c (x .number)) (z x j)) anything anything-silent
 
   -- The run r has one letter that is counted on each of n ticks, and from there on as many as q, a run of what K does on the ticks that are left.
   abbrev Lined : Rest → List Tick → Run → Type 0
@@ -108,10 +122,6 @@ module _ (c : ℕ → Bool) where
               let d : k ≡ n + (k - n) = omega (arith, l) in
               ap (at r) d ∙ b (k - n) ∙ x (k - n) (omega (arith, l, h))
 
-  one-counted : (b : Bool) → T b → cond b 1 0 + 0 ≡ 1
-  one-counted true h = refl
-  one-counted false h = absurd h
-
   rounds-lined : (e : Exp) (K : Rest) → K [] ≡ pastTheEnd → ((L : Rest) → L [] ≡ pastTheEnd → (us : List Tick) (q : Run) → q ∈ runs e L us → Lined L us q)
       → (n : ℕ) (ts : List Tick) (r : Run) → r ∈ rounds (runs e) K n ts → Lined K ts r
   unfolding rounds
@@ -136,7 +146,7 @@ module _ (c : ℕ → Bool) where
       (1, ts, q, w, omega arith, λ k g. subst (λ y. at y k ≡ 1) p (first q k g), λ k. subst (λ y. at y (1 + k) ≡ at q k) p (let e : 1 + k ≡ suc k = omega arith in ap (at ((l .number ∷ []) ∷ q)) e))
     where
       first : (q : Run) (k : ℕ) → k < 1 → at ((l .number ∷ []) ∷ q) k ≡ 1
-      first q zero g = one-counted (c (l .number)) (h l (here refl))
+      first q zero g = counts-one (c (l .number)) (h l (here refl))
       first q (suc k) g = absurd (omega (arith, g))
   lined (seq e f) h z K d ts r i =
       lined-then (runs f K) K ts r (lined f (λ x j. h x (∈-right (own e) j)) (z .1) K d) (lined e (λ x j. h x (∈-left (own f) j)) (z .0) (runs f K) (ended f K d) ts r i)
@@ -154,20 +164,20 @@ module _ (c : ℕ → Bool) where
         omega arith,
         λ k g. absurd (omega (arith, g)),
         λ k. let o : 0 + k ≡ k = omega arith in
-            let s = silent f (λ x j. is-false (c (x .number)) (z .1 x j)) anything (λ vs s w. past-silent s w) us b y k in
+            let s = thread-silent f (z .1) us b y k in
             ap (at q) o ∙ ap (λ v. at v k) p ∙ merge-at a b k ∙ omega (arith, s),
       ))
       (lined e h (z .0) (λ us. both (K us) (runs f anything us)) (ap₂ both d (ended f anything refl)) ts r i)
 
   -- ---- the first tick
 
-  -- asked at a tick, e has one own letter of its there, or it is nullable and K goes on
+  -- asked at a tick, e has one own letter there, or it is nullable and K goes on
   starts : (e : Exp) → Solid e → Counts c e → (K : Rest) (t : Tick) (ts : List Tick) (r : Run) → r ∈ runs e K (t ∷ ts) → (at r 0 ≡ 1) ⊎ (T (nullable e) × (r ∈ K (t ∷ ts)))
   unfolding runs own nullable rounds
   starts (letter l) s h K t ts r i =
       let (m, j) = only-∈ (meets l t) i in
       let (q, w, p) = map-∈ (λ r. (l .number ∷ []) ∷ r) (K ts) j in
-      inl (subst (λ y. at y 0 ≡ 1) p (one-counted (c (l .number)) (h l (here refl))))
+      inl (subst (λ y. at y 0 ≡ 1) p (counts-one (c (l .number)) (h l (here refl))))
   starts (seq e f) s h K t ts r i = ⊎-elim inl
       (λ (x, j). ⊎-elim inl (λ (y, k). inr (T-and (nullable e) (nullable f) x y, k)) (starts f (s .1) (λ x j. h x (∈-right (own e) j)) K t ts r j))
       (starts e (s .0) (λ x j. h x (∈-left (own f) j)) (runs f K) t ts r i)
@@ -184,43 +194,26 @@ module _ (c : ℕ → Bool) where
 
   -- ---- what follows letter n, an own one of e
 
-  in-cond : (b : Bool) {A B : List Run} {r : Run} → r ∈ cond b A B → (T b × (r ∈ A)) ⊎ (T (not b) × (r ∈ B))
+  pub in-cond : (b : Bool) {A B : List Run} {r : Run} → r ∈ cond b A B → (T b × (r ∈ A)) ⊎ (T (not b) × (r ∈ B))
   in-cond true i = inl (tt, i)
   in-cond false i = inr (tt, i)
 
-  thread-silent : (f : Exp) → ((x : Letter) → x ∈ letters f → T (c (x .number)) → ⊥) → Silent (runs f anything)
-  thread-silent f z = silent f (λ x j. is-false (c (x .number)) (z x j)) anything (λ vs s w. past-silent s w)
-
-  both-silent : (K : Rest) (f : Exp) → ((x : Letter) → x ∈ letters f → T (c (x .number)) → ⊥) → Silent K → Silent (λ us. both (K us) (runs f anything us))
-  both-silent K f z g us q w m =
-      let (a, b, x, y, p) = both-∈ (K us) (runs f anything us) w in
-      ap (λ v. at v m) p ∙ merge-at a b m ∙ ap₂ _+_ (g us a x m) (thread-silent f z us b y m)
-
   -- after a last one that nothing follows inside e there is none
-  ended-silent : (n : ℕ) (e : Exp) (K : Rest) → Numbered e → T (among (own e) n) → T (last n e) → ((x : Letter) → x ∈ follow n e → ⊥) → Quiet c e → Silent K → Silent (after n e K)
-  unfolding after own last follow
-  ended-silent n (letter l) K a o z f q g ts r i k = g ts r i k
-  ended-silent n (seq e h) K a o z f q g ts r i k = ⊎-elim
-      (λ (b, j). ⊎-elim
-      (λ y. absurd (apart-has e h n (a .0) (among-to (letters e) n b) (last-has n h y)))
-      (λ y. let (x, m) = a-first h in absurd (f x (∈-right (follow n e ++ follow n h) (∈-only (last n e) (and-T (nullable h) (last n e) y .1) m))))
-      (or-T (last n h) (nullable h && last n e) z))
-      (λ (b, j). ended-silent n h K (a .2) (own-there e h n b o)
-      (⊎-elim (λ y. y) (λ y. absurd (not-there e n b (and-T (nullable h) (last n e) y .1))) (or-T (last n h) (nullable h && last n e) z))
-      (λ x m. f x (∈-left (only (last n e) (first h)) (∈-right (follow n e) m))) (q .1) g ts r j k)
+  ended-silent : (n : ℕ) (e : Exp) (K : Rest) → Numbered e → T (among (own e) n) → Ends n e → Quiet c e → Silent K → Silent (after n e K)
+  unfolding after own
+  ended-silent n (letter l) K a o z q g ts r i k = g ts r i k
+  ended-silent n (seq e h) K a o z q g ts r i k =
+      let (b, w) = seq-ends n e h (a .0) z in
+      ⊎-elim (λ (d, j). absurd (T-not (has n e) b d)) (λ (d, j). ended-silent n h K (a .2) (own-there e h n d o) w (q .1) g ts r j k) (in-cond (has n e) i)
+  ended-silent n (alt e h) K a o z q g ts r i k =
+      let (v, w) = alt-ends n e h (a .0) z in
+      ⊎-elim
+      (λ (d, j). ended-silent n e K (a .1) (own-here e h n (a .0) d o) (v d) (q .0) g ts r j k) (λ (d, j). ended-silent n h K (a .2) (own-there e h n d o) (w d) (q .1) g ts r j k)
       (in-cond (has n e) i)
-  ended-silent n (alt e h) K a o z f q g ts r i k = ⊎-elim
-      (λ (b, j). ended-silent n e K (a .1) (own-here e h n (a .0) b o)
-      (⊎-elim (λ y. y) (λ y. absurd (apart-has e h n (a .0) (among-to (letters e) n b) (last-has n h y))) (or-T (last n e) (last n h) z))
-      (λ x m. f x (∈-left (follow n h) m)) (q .0) g ts r j k)
-      (λ (b, j). ended-silent n h K (a .2) (own-there e h n b o)
-      (⊎-elim (λ y. absurd (not-there e n b y)) (λ y. y) (or-T (last n e) (last n h) z))
-      (λ x m. f x (∈-right (follow n e) m)) (q .1) g ts r j k)
-      (in-cond (has n e) i)
-  ended-silent n (star e) K a o z f q g ts r i k = let (x, m) = a-first e in absurd (f x (∈-right (follow n e) (∈-only (last n e) z m)))
-  ended-silent n (pipe e h) K a o z f q g ts r i k = ⊎-elim
-      (λ (b, j). ended-silent n e (λ us. both (K us) (runs h anything us)) (a .1) o z (λ x m. f x (∈-left (follow n h) m)) (q .0) (both-silent K h (q .1) g) ts r j k)
-      (λ (b, j). absurd (T-not (has n e) b (own-has e n o)))
+  ended-silent n (star e) K a o z q g ts r i k = absurd (star-ends n e z)
+  ended-silent n (pipe e h) K a o z q g ts r i k = ⊎-elim
+      (λ (d, j). ended-silent n e (λ us. both (K us) (runs h anything us)) (a .1) o (pipe-ends n e h z) (q .0) (both-silent K (runs h anything) g (thread-silent h (q .1))) ts r j k)
+      (λ (d, j). absurd (T-not (has n e) d (own-has e n o)))
       (in-cond (has n e) i)
 
   -- K begins with one letter that is counted
@@ -230,7 +223,7 @@ module _ (c : ℕ → Bool) where
   asked-begins : (e : Exp) → Solid e → Counts c e → (K : Rest) (t : Tick) (ts : List Tick) → (T (nullable e) → Begins K t ts) → Begins (runs e K) t ts
   asked-begins e s h K t ts g r i = ⊎-elim (λ x. x) (λ (x, j). g x r j) (starts e s h K t ts r i)
 
-  both-begins : (K : Rest) (f : Exp) → ((x : Letter) → x ∈ letters f → T (c (x .number)) → ⊥) → (t : Tick) (ts : List Tick) → Begins K t ts → Begins (λ us. both (K us) (runs f anything us)) t ts
+  both-begins : (K : Rest) (f : Exp) → Uncounted f → (t : Tick) (ts : List Tick) → Begins K t ts → Begins (λ us. both (K us) (runs f anything us)) t ts
   both-begins K f z t ts g q w =
       let (a, b, x, y, p) = both-∈ (K (t ∷ ts)) (runs f anything (t ∷ ts)) w in
       let u = g a x in
@@ -258,22 +251,19 @@ module _ (c : ℕ → Bool) where
   -- after one that is not a last one there is another, whatever follows e
   other-begins : (n : ℕ) (e : Exp) (K : Rest) (t : Tick) (ts : List Tick) → Solid e → Numbered e → T (among (own e) n) → T (not (last n e)) → Counts c e → Quiet c e → Begins (after n e K) t ts
   unfolding after own last
-  other-begins n (letter l) K t ts s a o z h q r i = absurd (T-not (eqb n (l .number)) z (⊎-elim (λ y. y) (λ y. absurd y) (or-T (eqb n (l .number)) false o)))
+  other-begins n (letter l) K t ts s a o z h q r i = absurd (T-not (eqb n (l .number)) z (one-own l n o))
   other-begins n (seq e f) K t ts s a o z h q r i = ⊎-elim
-      (λ (b, j). by (nullable f) refl
-      (λ y. other-begins n e (runs f K) t ts (s .0) (a .1) (own-here e f n (a .0) b o) y (λ x m. h x (∈-left (own f) m)) (q .0) r j)
+      (λ (b, j). by-test (nullable f)
+      (λ y. other-begins n e (runs f K) t ts (s .0) (a .1) (own-here e f n (a .0) b o) (seq-not-last n e f z .1 y) (λ x m. h x (∈-left (own f) m)) (q .0) r j)
       (λ y. after-begins n e (runs f K) t ts (s .0) (a .1) (own-here e f n (a .0) b o) (λ x m. h x (∈-left (own f) m)) (q .0)
-      (asked-begins f (s .1) (λ x m. h x (∈-right (own e) m)) K t ts (λ u. absurd (rw y at u))) r j))
-      (λ (b, j). other-begins n f K t ts (s .1) (a .2) (own-there e f n b o) (not-T (last n f) (λ y. T-not (last n f || (nullable f && last n e)) z (T-or-left (last n f) _ y)))
-      (λ x m. h x (∈-right (own e) m)) (q .1) r j)
+      (asked-begins f (s .1) (λ x m. h x (∈-right (own e) m)) K t ts (λ v. absurd (T-not (nullable f) y v))) r j))
+      (λ (b, j). other-begins n f K t ts (s .1) (a .2) (own-there e f n b o) (seq-not-last n e f z .0) (λ x m. h x (∈-right (own e) m)) (q .1) r j)
       (in-cond (has n e) i)
-    where
-      by : (b : Bool) → nullable f ≡ b → (T (not (last n e)) → at r 0 ≡ 1) → (nullable f ≡ false → at r 0 ≡ 1) → at r 0 ≡ 1
-      by true p f′ g = f′ (not-T (last n e) (λ y. T-not (last n f || (nullable f && last n e)) z (T-or-right (last n f) _ (T-and (nullable f) (last n e) (rw p tt) y))))
-      by false p f′ g = g p
-  other-begins n (alt e f) K t ts s a o z h q r i = ⊎-elim
-      (λ (b, j). other-begins n e K t ts (s .0) (a .1) (own-here e f n (a .0) b o) (not-T (last n e) (λ y. T-not (last n e || last n f) z (T-or-left (last n e) _ y))) (λ x m. h x (∈-left (own f) m)) (q .0) r j)
-      (λ (b, j). other-begins n f K t ts (s .1) (a .2) (own-there e f n b o) (not-T (last n f) (λ y. T-not (last n e || last n f) z (T-or-right (last n e) _ y))) (λ x m. h x (∈-right (own e) m)) (q .1) r j)
+  other-begins n (alt e f) K t ts s a o z h q r i =
+      let (v, w) = alt-not-last n e f z in
+      ⊎-elim
+      (λ (b, j). other-begins n e K t ts (s .0) (a .1) (own-here e f n (a .0) b o) v (λ x m. h x (∈-left (own f) m)) (q .0) r j)
+      (λ (b, j). other-begins n f K t ts (s .1) (a .2) (own-there e f n b o) w (λ x m. h x (∈-right (own e) m)) (q .1) r j)
       (in-cond (has n e) i)
   other-begins n (star e) K t ts s a o z h q r i = other-begins n e (runs (star e) K) t ts (s .1) a o z h q r i
   other-begins n (pipe e f) K t ts s a o z h q r i = ⊎-elim
@@ -307,15 +297,15 @@ module _ (f : Exp) (solid : Solid f) (filled : T (not (nullable f))) (numbered :
       at-least (suc n) ts r i none h = omega arith
 
   -- Behind a last letter of the thread, where rule 11 lets nothing follow, it requires none;
-  after-last : (n : ℕ) → T (among (own f) n) → T (last n f) → ((x : Letter) → x ∈ follow n f → ⊥) → (ts : List Tick) (r : Run) → r ∈ after n f anything ts → (k : ℕ) → required f (getD r k []) ≡ 0
-  after-last n o z g ts r i k = ended-silent (among (own f)) n f anything numbered o z g own-quiet (λ vs s w. past-silent (among (own f)) s w) ts r i k
+  after-last : (n : ℕ) → T (among (own f) n) → Ends n f → (ts : List Tick) (r : Run) → r ∈ after n f anything ts → (k : ℕ) → required f (getD r k []) ≡ 0
+  after-last n o z ts r i k = ended-silent (among (own f)) n f anything numbered o z own-quiet (λ vs s w. past-silent (among (own f)) s w) ts r i k
 
   -- behind any other it requires one.
   after-other : (n : ℕ) → T (among (own f) n) → T (not (last n f)) → (t : Tick) (ts : List Tick) (r : Run) → r ∈ after n f anything (t ∷ ts) → required f (getD r 0 []) ≡ 1
   after-other n o z t ts r i = other-begins (among (own f)) n f anything t ts solid numbered o z own-counts own-quiet r i
 
 -- Every letter is required by the part itself, or by a thread in it.
-pub required-by : (e : Exp) (x : Letter) → x ∈ letters e → (x ∈ own e) ⊎ ((f : Exp) × (f ∈ threads e) × (x ∈ own f))
+required-by : (e : Exp) (x : Letter) → x ∈ letters e → (x ∈ own e) ⊎ ((f : Exp) × (f ∈ threads e) × (x ∈ own f))
 unfolding letters own threads
 required-by (letter l) x i = inl i
 required-by (seq e g) x i = ⊎-elim
@@ -334,50 +324,23 @@ required-by (pipe e g) x i = ⊎-elim
 
 -- ---- a thread of an accepted monitor
 
-thread-solid : (e f : Exp) → Solid e → f ∈ threads e → Solid f × T (not (nullable f))
-unfolding threads
-thread-solid (letter l) f s i = absurd (no-∈ i)
-thread-solid (seq e g) f s i = ⊎-elim (thread-solid e f (s .0)) (thread-solid g f (s .1)) (append-∈ (threads e) i)
-thread-solid (alt e g) f s i = ⊎-elim (thread-solid e f (s .0)) (thread-solid g f (s .1)) (append-∈ (threads e) i)
-thread-solid (star e) f s i = thread-solid e f (s .1) i
-thread-solid (pipe e g) f s i = ⊎-elim
-    (λ p. subst (λ z. Solid z × T (not (nullable z))) (sym p) (s .3, s .1))
-    (λ j. ⊎-elim (thread-solid e f (s .2)) (thread-solid g f (s .3)) (append-∈ (threads e) j))
-    (cons-∈ i)
-
-thread-numbered : (e f : Exp) → Numbered e → f ∈ threads e → Numbered f
-unfolding threads
-thread-numbered (letter l) f a i = absurd (no-∈ i)
-thread-numbered (seq e g) f a i = ⊎-elim (thread-numbered e f (a .1)) (thread-numbered g f (a .2)) (append-∈ (threads e) i)
-thread-numbered (alt e g) f a i = ⊎-elim (thread-numbered e f (a .1)) (thread-numbered g f (a .2)) (append-∈ (threads e) i)
-thread-numbered (star e) f a i = thread-numbered e f a i
-thread-numbered (pipe e g) f a i = ⊎-elim
-    (λ p. subst Numbered (sym p) (a .2))
-    (λ j. ⊎-elim (thread-numbered e f (a .1)) (thread-numbered g f (a .2)) (append-∈ (threads e) j))
-    (cons-∈ i)
-
--- rule 11
-thread-closed : (e f : Exp) → Closed e → f ∈ threads e → (n : ℕ) (x : Letter) → T (last n f) → x ∈ follow n f → ⊥
-unfolding threads
-thread-closed (letter l) f c i = absurd (no-∈ i)
-thread-closed (seq e g) f c i = ⊎-elim (thread-closed e f (c .0)) (thread-closed g f (c .1)) (append-∈ (threads e) i)
-thread-closed (alt e g) f c i = ⊎-elim (thread-closed e f (c .0)) (thread-closed g f (c .1)) (append-∈ (threads e) i)
-thread-closed (star e) f c i = thread-closed e f c i
-thread-closed (pipe e g) f c i = ⊎-elim
-    (λ p. subst (λ z. (n : ℕ) (x : Letter) → T (last n z) → x ∈ follow n z → ⊥) (sym p) (c .0))
-    (λ j. ⊎-elim (thread-closed e f (c .1)) (thread-closed g f (c .2)) (append-∈ (threads e) j))
-    (cons-∈ i)
-
 module _ (m : Exp) (ac : Accepted m) (f : Exp) (i : f ∈ threads m) where
-  fs : Solid f × T (not (nullable f))
+  pub fs : Solid f × T (not (nullable f))
   fs = thread-solid m f (ac .solid .1) i
 
   pub start-requires : (ts : List Tick) (r : Run) → r ∈ runs f anything ts
       → (n : ℕ) × (n ≤ length ts) × (0 < length ts → 0 < n) × ((k : ℕ) → k < n → required f (getD r k []) ≡ 1) × ((k : ℕ) → n ≤ k → required f (getD r k []) ≡ 0)
   start-requires = one-a-tick f (fs .0) (fs .1) (thread-numbered m f (ac .numbered) i)
 
+  -- each letter of it is an own one or one of a thread inside it, and never both
+  pub innermost : ((x : Letter) → x ∈ letters f → (x ∈ own f) ⊎ ((g : Exp) × (g ∈ threads f) × (x ∈ own g))) × ((g : Exp) → g ∈ threads f → (x : Letter) → x ∈ own g → x ∈ own f → ⊥)
+  innermost = (
+    required-by f,
+    λ g j x a b. own-apart f g (thread-numbered m f (ac .numbered) i) j (x .number) (among-from (own g) x a) (among-from (own f) x b),
+  )
+
   pub behind-last : (n : ℕ) → T (among (own f) n) → T (last n f) → (ts : List Tick) (r : Run) → r ∈ after n f anything ts → (k : ℕ) → required f (getD r k []) ≡ 0
-  behind-last n o z = after-last f (fs .0) (fs .1) (thread-numbered m f (ac .numbered) i) n o z (λ x. thread-closed m f (ac .closed) i n x z)
+  behind-last n o z = after-last f (fs .0) (fs .1) (thread-numbered m f (ac .numbered) i) n o (z, λ x. thread-closed m f (ac .closed) i n x z)
 
   pub behind-other : (n : ℕ) → T (among (own f) n) → T (not (last n f)) → (t : Tick) (ts : List Tick) (r : Run) → r ∈ after n f anything (t ∷ ts) → required f (getD r 0 []) ≡ 1
   behind-other = after-other f (fs .0) (fs .1) (thread-numbered m f (ac .numbered) i)
@@ -394,14 +357,6 @@ module _ (m : Exp) where
       by true e = absurd (T-not (occupied m ns) h (any-from (λ g. leb 2 (required g ns)) i (subst T (sym e) tt)))
       by false e = let x = leb-false 2 (required f ns) e in omega (arith, x)
 
-  not-occupied : (ns : List ℕ) → ((f : Exp) → f ∈ threads m → required f ns ≤ 1) → T (not (occupied m ns))
-  unfolding occupied
-  not-occupied ns h = not-T (occupied m ns) (λ t.
-      let (f, i, u) = any-to (λ g. leb 2 (required g ns)) (threads m) t in
-      let x = h f i in
-      let y = leb→le 2 (required f ns) u in
-      omega (arith, x, y))
-
   each-few : (r : Run) → T (unoccupied m r) → (f : Exp) → f ∈ threads m → (k : ℕ) → required f (getD r k []) ≤ 1
   each-few [] h f i k = omega arith
   each-few (ns ∷ r) h f i zero = few ns (and-T (not (occupied m ns)) (unoccupied m r) h .0) f i
@@ -409,7 +364,7 @@ module _ (m : Exp) where
 
   none-occupied : (r : Run) → ((f : Exp) → f ∈ threads m → (k : ℕ) → required f (getD r k []) ≤ 1) → T (unoccupied m r)
   none-occupied [] h = tt
-  none-occupied (ns ∷ r) h = T-and (not (occupied m ns)) (unoccupied m r) (not-occupied ns (λ f i. h f i 0)) (none-occupied r (λ f i k. h f i (suc k)))
+  none-occupied (ns ∷ r) h = T-and (not (occupied m ns)) (unoccupied m r) (not-occupied m ns (λ f i. h f i 0)) (none-occupied r (λ f i k. h f i (suc k)))
 
   some-run : (A : List Run) → _≡_ {A = Bool} (not (null A)) true → (r : Run) × (r ∈ A)
   some-run [] p = clash (cc p)

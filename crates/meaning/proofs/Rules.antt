@@ -6,11 +6,12 @@ use mathlib.Core.Logic.{inl, inr, ⊎-elim, _↔_}
 use Prim.Native.Nat.{ℕ}
 use lib.Dec.{T, T-not, not-T, eqb, eqb→eq, eqb-refl}
 use Rattle.meaning.specs.Lists.{_∈_, any, null, only}
-use Rattle.meaning.specs.Expression.{Letter, Exp, letter, seq, alt, star, pipe, letters}
+use Rattle.meaning.specs.Expression.{Letter, Exp, star, letters}
 use Rattle.meaning.specs.Shape.{nullable, first, last, follow, threads, Together, parts, head, UnsatisfiableAt, NullableAt, OpenEndAt, SideBySide, AmbiguousAt}
 use Rattle.meaning.specs.ShapeTests.{SizedLetters, groups, agree, together, numbers, unsatisfiable, nullables, openEnds, ambiguous}
-use Rattle.meaning.proofs.ListLaws.{here, there, cons-∈, no-∈, append-∈, ∈-left, ∈-right, ∈-map, map-∈, ∈-cast, one-∈, ∈-each, each-∈, ∈-only, only-∈, T-and, and-T, any-from, any-to}
+use Rattle.meaning.proofs.ListLaws.{here, there, cons-∈, append-∈, ∈-left, ∈-right, ∈-map, map-∈, ∈-cast, one-∈, ∈-each, each-∈, ∈-only, only-∈, T-and, and-T, any-from, any-to}
 use Rattle.meaning.proofs.OneWay.{first-letters, last-has, follow-in}
+use Rattle.meaning.proofs.Threads.{threads-letters}
 use Rattle.meaning.proofs.Bits.{unsatisfiable-exactly, together-exactly}
 
 numbers-exactly : (test : Letter → Bool) (ls : List Letter) (n : ℕ) → n ∈ numbers test ls ↔ ((l : Letter) × (l ∈ ls) × (l .number ≡ n) × T (test l))
@@ -76,19 +77,6 @@ open-end-at m n = (
     test f l = last (l .number) f && not (null (follow (l .number) f))
 
 -- ---- rule 12 ----
-
-pub threads-letters : (e f : Exp) → f ∈ threads e → (x : Letter) → x ∈ letters f → x ∈ letters e
-unfolding threads letters
-threads-letters (letter l) g i x j = absurd (no-∈ i)
-threads-letters (seq e f) g i x j = ⊎-elim
-    (λ k. ∈-left (letters f) (threads-letters e g k x j)) (λ k. ∈-right (letters e) (threads-letters f g k x j)) (append-∈ (threads e) i)
-threads-letters (alt e f) g i x j = ⊎-elim
-    (λ k. ∈-left (letters f) (threads-letters e g k x j)) (λ k. ∈-right (letters e) (threads-letters f g k x j)) (append-∈ (threads e) i)
-threads-letters (star e) g i x j = threads-letters e g i x j
-threads-letters (pipe e f) g i x j = ⊎-elim
-    (λ p. ∈-right (letters e) (subst (λ z. x ∈ letters z) p j))
-    (λ h. ⊎-elim (λ k. ∈-left (letters f) (threads-letters e g k x j)) (λ k. ∈-right (letters e) (threads-letters f g k x j)) (append-∈ (threads e) h))
-    (cons-∈ i)
 
 pub beside-letters : (m : Exp) (x y : Letter) → SideBySide m x y → (x ∈ letters m) × (y ∈ letters m)
 unfolding letters

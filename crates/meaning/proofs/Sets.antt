@@ -12,6 +12,7 @@ use Rattle.meaning.specs.Fit.{Tick, meets}
 use Rattle.meaning.specs.Positions.{Way, stuck, over, joined, Entered, met, passed, blocked, thenEnter, orEnter, orPass, enter, goesBy, ask, has, underWay, busy, begin, leave, Positions, at-start, on, goAll, go, kept}
 use Rattle.meaning.proofs.ListLaws.{here, there, cons-∈, no-∈, append-∈, ∈-left, ∈-right, ∈-cast, one-∈, each-∈, ∈-each, ∈-only, only-∈, any-from, any-to, same-truth}
 use Rattle.meaning.proofs.OneWay.{Has}
+use Rattle.meaning.proofs.Threads.{own-letters}
 
 -- ---- sets of positions ----
 
@@ -164,14 +165,6 @@ module _ (Q : ℕ → Type 0) where
   enter-own (alt e f) t h = met-or (enter e t) (enter f t) (enter-own e t (λ l i. h l (∈-left (own f) i))) (enter-own f t (λ l i. h l (∈-right (own e) i)))
   enter-own (star e) t h = met-star (enter e t) (enter-own e t h)
   enter-own (pipe e f) t h = enter-own e t h
-
-pub own-letters : (e : Exp) (x : Letter) → x ∈ own e → x ∈ letters e
-unfolding own letters
-own-letters (letter l) x i = i
-own-letters (seq e f) x i = ⊎-elim (λ j. ∈-left (letters f) (own-letters e x j)) (λ j. ∈-right (letters e) (own-letters f x j)) (append-∈ (own e) i)
-own-letters (alt e f) x i = ⊎-elim (λ j. ∈-left (letters f) (own-letters e x j)) (λ j. ∈-right (letters e) (own-letters f x j)) (append-∈ (own e) i)
-own-letters (star e) x i = own-letters e x i
-own-letters (pipe e f) x i = ∈-left (letters f) (own-letters e x i)
 
 goes-inside : (m : Exp) (a : Entered) (o : Option (List ℕ)) → MetIn (λ n. Has n m) a → Inside m o → Inside m (goesBy a o)
 goes-inside m (met n) o h g = λ ns p k i. subst (λ z. Has z m) (sym (one-∈ (subst (λ z. k ∈ z) (sym (Option·some-injective (n ∷ []) ns p)) i))) h

@@ -9,7 +9,7 @@ use lib.Dec.{T, eqb}
 use borrow.Author.Tests.{eqb-true, eqb-false, eq-eqb, ne-eqb}
 use Rattle.meaning.specs.Lists.{_∈_, carry, each, only, member}
 use Rattle.meaning.specs.Expression.{Letter, Exp, letter, seq, alt, star, pipe, letters, own, size, renumbered, Ordered}
-use Rattle.meaning.specs.Shape.{nullable, first, last, follow}
+use Rattle.meaning.specs.Shape.{nullable, first, last, follow, threads}
 use Rattle.meaning.specs.Fit.{Tick, meets, among, write, writeMet}
 use Rattle.meaning.specs.Positions.{Way, stuck, over, joined, Entered, met, passed, blocked, thenEnter, orEnter, orPass, enter, goesBy, ask, has, busy, begin, leave, Positions, at-start, on, goAll, go, kept}
 use Rattle.meaning.proofs.ListLaws.{map-∈}
@@ -93,6 +93,14 @@ module _ (k : ℕ) where
   own-shifted (star e) = own-shifted e
   own-shifted (pipe e f) = own-shifted e
 
+  pub threads-shifted : (e : Exp) → threads (shifted e) ≡ map (shifted) (threads e)
+  unfolding threads shifted
+  threads-shifted (letter l) = refl
+  threads-shifted (seq e f) = ap₂ _++_ (threads-shifted e) (threads-shifted f) ∙ sym (map-append (shifted) (threads e) (threads f))
+  threads-shifted (alt e f) = ap₂ _++_ (threads-shifted e) (threads-shifted f) ∙ sym (map-append (shifted) (threads e) (threads f))
+  threads-shifted (star e) = threads-shifted e
+  threads-shifted (pipe e f) = ap (λ gs. shifted f ∷ gs) (ap₂ _++_ (threads-shifted e) (threads-shifted f) ∙ sym (map-append (shifted) (threads e) (threads f)))
+
   nullable-shifted : (e : Exp) → nullable (shifted e) ≡ nullable e
   unfolding nullable shifted
   nullable-shifted (letter l) = refl
@@ -154,7 +162,7 @@ module _ (k : ℕ) where
     closed-shifted f (c .2),
   )
 
-  pub busy-shifted : (ns : List ℕ) (f : Exp) → busy (shiftAll ns) (shifted f) ≡ busy ns f
+  busy-shifted : (ns : List ℕ) (f : Exp) → busy (shiftAll ns) (shifted f) ≡ busy ns f
   busy-shifted [] f = refl
   busy-shifted (n ∷ ns) f =
       ap₂ _||_ (ap₂ (λ a b. a && not b) (ap (λ ls. among ls (k + n)) (own-shifted f) ∙ among-shifted n (own f)) (last-shifted n f)) (busy-shifted ns f)

@@ -222,6 +222,11 @@ module _ (G : ℕ → Rest) where
     from = λ t ts q r i j. subst (λ x. r ∈ goesOn G x ts) (one-∈ i) j;
   }
 
+  pub afters-good : ((n : ℕ) → Good G (G n)) → (ns : List ℕ) → Good G (afters G ns)
+  unfolding afters
+  afters-good g [] = good-anything
+  afters-good g (n ∷ ns) = good-both (G n) (afters G ns) (g n) (afters-good g ns)
+
   pub good-nothing : Good G nothing
   good-nothing = record {
     to = λ t ts r i. absurd (no-∈ i);

@@ -35,9 +35,13 @@ star-stuck (met n) = refl
 star-stuck passed = refl
 star-stuck blocked = refl
 
--- Only rows of threads are shut, and none of them is a monitor's own: row c is the right operand of an `@`.
+-- row c is the right operand of an `@`, and so no monitor's own
+abbrev pub ThreadRow : Table → ℕ → Type 0
+ThreadRow R c = (R c .up ≡ c → ⊥) × (R (R c .up) .kind ≡ is-pipe) × (c ≡ R (R c .up) .left → ⊥)
+
+-- only rows of threads are shut
 abbrev pub ThreadsShut : (ℕ → Bool) → Table → Type 0
-ThreadsShut shut R = (c : ℕ) → T (shut c) → (R c .up ≡ c → ⊥) × (R (R c .up) .kind ≡ is-pipe) × (c ≡ R (R c .up) .left → ⊥)
+ThreadsShut shut R = (c : ℕ) → T (shut c) → ThreadRow R c
 
 -- the threads of e, whose row is r, are shut where B says that they are busy
 abbrev pub Shuts : (ℕ → Bool) → Table → (B : Exp → Bool) → ℕ → Exp → Type 0

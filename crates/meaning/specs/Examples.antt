@@ -77,9 +77,9 @@ pasts =
     ∷ abc "a == past(b)" [] "refused 3 42\n"
     ∷ []
 
--- with a production that another is made of twice
-abbrev twice : String → String → List ℕ → String → Example
-twice t e ws s = record { text = bytes "input a; input b; input c; t -> " ++ bytes t ++ bytes "; p -> " ++ bytes e ++ bytes "; monitor p;"; words = ws; sheet = bytes s }
+-- with a production t before the rest of the text
+abbrev with : String → String → List ℕ → String → Example
+with t rest ws s = record { text = bytes "input a; input b; input c; t -> " ++ bytes t ++ bytes "; " ++ bytes rest; words = ws; sheet = bytes s }
 
 -- F17: starts of a thread that overlap, each with a reading by which it would end otherwise
 abbrev pub overlaps : List Example
@@ -95,11 +95,17 @@ overlaps =
     ∷ abc "a @ (b @ (c, c)) || !a" (1 ∷ 3 ∷ 6 ∷ 4 ∷ [])
     "rows 9 letters 5\n0 0000000000000001 ok\n1 0000000000000003 ok\n2 0000000000000006 ok\n3 0000000000000004 bad 0\n"
     -- two copies of a production taken for one thread: tick 2 would be bad
-    ∷ twice "a @ (b, c)" "t, t || !a" (1 ∷ 3 ∷ 6 ∷ [])
+    ∷ with "a @ (b, c)" "p -> t, t || !a; monitor p;" (1 ∷ 3 ∷ 6 ∷ [])
     "rows 13 letters 7\n0 0000000000000001 ok\n1 0000000000000003 ok\n2 0000000000000006 ok\nclean 3\n"
+    -- two monitors with the same production taken for one thread: tick 1 would be bad
+    ∷ with "a @ (b, c) || !a" "monitor t, t;" (1 ∷ 2 ∷ 4 ∷ [])
+    "rows 14 letters 8\n0 0000000000000001 ok\n1 0000000000000002 ok\n2 0000000000000004 ok\nclean 3\n"
     -- a thread of its own for each round of a star: tick 2 would be ok
     ∷ abc "(a @ (b, c))*, !a" (1 ∷ 3 ∷ 6 ∷ [])
     "rows 8 letters 4\n0 0000000000000001 ok\n1 0000000000000003 ok\n2 0000000000000006 bad 0\n"
+    -- two ways out of a star taken for two starts: tick 1 would be bad
+    ∷ abc "(a, ((b & !c)* || (c & !b)*)) @ (!b, !b), !a & !b & !c" (1 ∷ 0 ∷ 1 ∷ [])
+    "rows 13 letters 6\n0 0000000000000001 ok\n1 0000000000000000 ok\n2 0000000000000001 ok\nclean 3\n"
     -- a branch that goes another way at tick 3 dropped with the one that starts the thread there: tick 3 would be bad
     ∷ abc "(a, b*) @ (c, c, c), !b" (1 ∷ 4 ∷ 5 ∷ 6 ∷ [])
     "rows 12 letters 6\n0 0000000000000001 ok\n1 0000000000000004 ok\n2 0000000000000005 ok\n3 0000000000000006 ok\nclean 4\n"

@@ -100,8 +100,8 @@ abbrev pub among : List Letter → ℕ → Bool
 among ls n = any (λ l. eqb n (l .number)) ls
 
 -- F17: how many letters the starts of the thread f require at a tick at which a branch has the letters ns. So many starts
--- do: each "requires one letter at each tick that has a word", up to its last, and none behind that (proofs/Requires), and
--- the letters of starts that run at once add up (`merge`).
+-- do: each "requires one letter at each tick that has a word", up to its last, and none behind that (proofs/Requires,
+-- proofs/StartEnds), and the letters of starts that run at once add up (`merge`).
 abbrev pub required : Exp → List ℕ → ℕ
 required f ns = count (among (own f)) ns
 

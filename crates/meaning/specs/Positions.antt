@@ -99,7 +99,7 @@ pub data Positions : Type 0 where
   at-start : Positions
   on : List ℕ → Positions
 
--- every position must go on
+-- every position must go on; F16: "it fits only if each of them does"
 unfoldable pub goAll : (ℕ → Way) → List ℕ → Way
 goAll W [] t = some []
 goAll W (n ∷ ns) t = joined (W n t) (goAll W ns t)
@@ -144,7 +144,7 @@ writeEach t [] nss σ = σ
 writeEach t (m ∷ ms) [] σ = σ
 writeEach t (m ∷ ms) (ns ∷ nss) σ = writeEach t ms nss (writeMet t m ns σ)
 
--- the positions of m: each letter of ns once, in reading order; none stands in ns twice where m is accepted (proofs/Occupied, `stays-steady`)
+-- W7: "the set of its letters met at the last tick": each letter of ns once, in reading order
 unfoldable pub kept : Exp → List ℕ → List ℕ
 kept m ns = each (letters m) (λ l. only (member (l .number) ns) (l .number ∷ []))
 

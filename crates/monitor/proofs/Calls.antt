@@ -9,23 +9,24 @@ use lib.Dec.{T}
 use lib.ListN.{length, getD}
 use Rattle.meaning.specs.Lists.{_∈_, carry, total}
 use Rattle.meaning.specs.Answers.{value}
-use Rattle.meaning.specs.Expression.{Letter, Exp, star, letters, size, rows, renumbered, Ordered}
+use Rattle.meaning.specs.Expression.{Letter, Exp, star, letters, own, size, rows, renumbered, Ordered}
 use Rattle.meaning.specs.Numbered.{numberedFrom}
+use Rattle.meaning.specs.Shape.{threads}
 use Rattle.meaning.specs.ShapeTests.{agree, AllSized}
-use Rattle.meaning.specs.Fit.{Tick, meets, write}
+use Rattle.meaning.specs.Fit.{Tick, meets, among, write}
 use Rattle.meaning.specs.Positions as machine
 use Rattle.meaning.specs.Table.{Table}
-use Rattle.meaning.specs.Calls.{Call, stateFrom, replies, standing as stood}
+use Rattle.meaning.specs.Calls.{Call, opening, stateFrom, replies, standing as stood}
 use Rattle.meaning.specs.Opening.{Opened, openText}
 use Rattle.meaning.proofs.ListLaws.{here, there, no-∈, cons-∈, map-∈, ∈-map}
 use Rattle.meaning.proofs.Step.{Solid}
 use Rattle.meaning.proofs.Within.{LetterWithin}
 use Rattle.meaning.proofs.Walk.{a-row}
 use Rattle.meaning.proofs.Shifted.{shiftLetter, letters-renumbered}
-use Rattle.meaning.proofs.Accept.{accept-solid, accept}
 use Rattle.meaning.proofs.OneWay.{Closed}
+use Rattle.meaning.proofs.Calls.{Alike}
 use Rattle.meaning.proofs.Numbering.{renumbered-size, renumbered-rows}
-use Rattle.meaning.proofs.Openings.{machine-right, machine-stands, all-read}
+use Rattle.meaning.proofs.Openings.{machine-right, machine-stands, all-read, all-accepted}
 use Rattle.rules.specs.declared.Watch.{Watch}
 use Rattle.rules.specs.Cells.{Link}
 use Rattle.rules.specs.Laying.{slotWord, slotNumber, slotsOf}
@@ -45,6 +46,7 @@ use Rattle.monitor.proofs.ShutRows.{threads-shut, busy-shut}
 use Rattle.monitor.proofs.Moves.{AllWriteAs, MarksAll}
 use Rattle.monitor.proofs.Watching.{Steps, steps-right}
 use Rattle.monitor.proofs.Replies.{Like, watches-by, machine-replies, machine-states}
+use Rattle.monitor.proofs.Single.{one-marked}
 use Rattle.monitor.proofs.Starts.{starts}
 use Rattle.monitor.proofs.Numbered.{programOf}
 use Rattle.monitor.proofs.LetterRows.{HeldAll}
@@ -181,10 +183,10 @@ module _ (text : List ℕ) (o : Opened) (e : openText text ≡ value o) where
   ordered m i = all-read text o e m i .0
 
   solid : (m : Exp) → m ∈ o .monitors → Ordered 0 m × Solid (star m)
-  solid m i = (all-read text o e m i .0, accept-solid m (all-read text o e m i .1))
+  solid m i = (ordered m i, all-accepted text o e m i .solid)
 
   closed : (m : Exp) → m ∈ o .monitors → Ordered 0 m × Closed m
-  closed m i = let (a, s) = all-read text o e m i in (a, accept m a s .closed)
+  closed m i = (ordered m i, all-accepted text o e m i .closed)
 
   stands : AllStanding (Program.tableOf o) (v .places) (layoutOf v) (o .rowCount) 0 0 0 (o .monitors)
   unfolding v
@@ -255,14 +257,21 @@ module _ (text : List ℕ) (o : Opened) (e : openText text ≡ value o) where
       (machine.opened (o .monitors) (o .initial)) start-like cs
       ∙ machine-right text o e cs
 
+  -- after any list of calls it stands as the machine
+  states-like : (cs : List Call)
+      → Alike (Like (o .monitors) padded (length (o .initial))) (stateFrom (judge v) (onward v) (v .wires) (stateOf v) cs)
+      (stateFrom (machine.answer (o .monitors)) (machine.moved (o .monitors)) (o .wires) (opening (machine.opened (o .monitors) (o .initial))) cs)
+  unfolding v watchOf
+  states-like =
+      machine-states (o .monitors) padded (length (o .initial)) v (Program.monitors-counted o c) (c .few-monitors) few-letters step-right (stateOf v)
+      (machine.opened (o .monitors) (o .initial)) start-like
+
   -- After any list of calls the watch has the tick count, the stop, the word before and the store values that the meaning fixes, zeros behind these; all else but the marks is
   -- as it was opened.
   pub watch-held : (cs : List Call) → Held (watchOf (value o)) (watchAfterAll (watchOf (value o)) cs) (stood (o .monitors) (o .initial) (o .wires) cs)
   unfolding v watchOf
   watch-held cs =
-      let s = stateFrom (judge v) (onward v) (v .wires) (stateOf v) cs in
-      let (l, n, b) = machine-states (o .monitors) padded (length (o .initial)) v (Program.monitors-counted o c) (c .few-monitors) few-letters step-right (stateOf v)
-      (machine.opened (o .monitors) (o .initial)) start-like cs in
+      let (l, n, b) = states-like cs in
       let (t, k, q) = machine-stands text o e cs in
       let w = watches-by v (stateOf v) cs in
       record {
@@ -272,3 +281,12 @@ module _ (text : List ℕ) (o : Opened) (e : openText text ≡ value o) where
         before = ap (λ (u : Watch). u .before) w ∙ l .last ∙ sym (t .1);
         values = ap (λ (u : Watch). u .values) w ∙ l .values ∙ ap padded (sym (t .2));
       }
+
+  -- F17 in the watch: after any list of calls at most one of the marked letters is a thread's own.
+  pub one-active : (cs : List Call) (m : Exp) → m ∈ numberedFrom 0 (o .monitors) → (f : Exp) → f ∈ threads m → (a b : ℕ) → T (among (own f) a) → T (among (own f) b)
+      → (getD (watchAfterAll (watchOf (value o)) cs .marks) a 0 ≡ 0 → ⊥) → (getD (watchAfterAll (watchOf (value o)) cs .marks) b 0 ≡ 0 → ⊥) → a ≡ b
+  unfolding v
+  one-active cs =
+      let (t, _, _) = machine-stands text o e cs in
+      rw (watches-by v (stateOf v) cs)
+      (one-marked _ _ 0 0 (o .monitors) _ (λ m i. (ordered m i, all-accepted text o e m i)) (states-like cs .0 .marks) (t .0))

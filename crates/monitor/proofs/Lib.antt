@@ -25,12 +25,14 @@ mod LetterSteps
 mod Marked
 -- the thread of each letter, by the branches and the loop of the code
 mod ThreadSteps
--- behind the last letter that writes nothing is written
+-- behind the last letter that writes nothing is written; the word of the tables that has the numbers of letters to be looked at
 mod Writers
 -- the rows shut at a tick are those of the threads that are busy
 mod Shut
 -- in the watch of an accepted text
 mod ShutRows
+-- of the marked letters at most one is a thread's own
+mod Single
 -- a tick, by the loops and branches of the code
 pub mod TickSteps
 -- a list that is stored in an array stands there
@@ -47,7 +49,7 @@ mod LetterIndex
 mod LetterRows
 -- what stands in the watch of an accepted text, its table word for word (`table-right`)
 pub mod Program
--- its letters' threads are those of its expressions (`thread-rows-right`), and how many letters need be looked at for them (`threaded-enough`)
+-- its letters' threads are those of its expressions (`thread-rows-right`), and from which letter to which one need look for them (`unthreaded-before`, `threaded-enough`)
 pub mod ThreadRows
 -- a watch's store values are the meaning's with zeros behind them
 mod Padded

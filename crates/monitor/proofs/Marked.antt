@@ -4,7 +4,7 @@ use mathlib.Core.Bool.{Bool, true, false, cond}
 use mathlib.Core.List.{List, [], _∷_}
 use Prim.Native.Nat.{ℕ, zero, suc, _+_, _-_, _<_, _≤_}
 use native.Mathlib.Omega.{arith}
-use borrow.Author.Tests.{eq-eqb, ne-eqb, eqb-true, ltb-true, ltb-false}
+use borrow.Author.Tests.{eq-eqb, ne-eqb, eqb-true, eqb-false, ltb-true, ltb-false}
 use lib.Dec.{eqb, ltb}
 use lib.Bits.{bitOr, or-add-and, and-le-l, and-le-r}
 use lib.ListN.{getD, length, take, drop, replicate, set, getD-replicate, List·getD-eq-default}
@@ -54,6 +54,26 @@ eight-zero K l z =
 -- ---- from the first marked letter on
 
 module _ (K : List ℕ) where
+  -- a letter before the first that is marked is not
+  pub before-first : (n l i : ℕ) → l ≤ i → i < firstMarked K n l → getD K i 0 ≡ 0
+  unfolding firstMarked
+  before-first zero l i x y = absurd (omega (arith, x, y))
+  before-first (suc n) l i x y = by (eqb (getD K l 0) 0) refl (eqb i l) refl y (λ z w. before-first n (suc l) i z w)
+    where
+      by : (b : Bool) → eqb (getD K l 0) 0 ≡ b → (c : Bool) → eqb i l ≡ c → i < cond b (firstMarked K n (suc l)) l → (suc l ≤ i → i < firstMarked K n (suc l) → getD K i 0 ≡ 0) → getD K i 0 ≡ 0
+      by true e true q w more = ap (λ (z : ℕ). getD K z 0) (eqb-true i l q) ∙ eqb-true (getD K l 0) 0 e
+      by true e false q w more = more (let s = eqb-false i l q in omega (arith, x, s)) w
+      by false e c q w more = absurd (omega (arith, x, w))
+
+  pub first-low : (n l : ℕ) → firstMarked K n l ≤ l + n
+  unfolding firstMarked
+  first-low zero l = omega arith
+  first-low (suc n) l = by (eqb (getD K l 0) 0) (first-low n (suc l))
+    where
+      by : (b : Bool) → firstMarked K n (suc l) ≤ suc l + n → cond b (firstMarked K n (suc l)) l ≤ l + suc n
+      by true h = omega (arith, h)
+      by false h = omega arith
+
   pub first-above : (n l : ℕ) → l ≤ firstMarked K n l
   unfolding firstMarked
   first-above zero l = omega arith

@@ -122,7 +122,7 @@ module _ (g : Given) (K : List ℕ) where
   pub begun : (n : ℕ) → Begun (shutBusy g K n emptyMemory)
   begun n = shut-all (threadedAmong g n - unthreaded g) (unthreaded g) emptyMemory empty-begun
 
--- what is blocked is kept as that
+-- a row that is shut is blocked, whatever the count
 enter-shut : (shut : ℕ → Bool) (N : ℕ) (R : Table) (r : ℕ) (t : Tick) → shut r ≡ true → enterRow shut N R r t ≡ blocked
 unfolding enterRow
 enter-shut shut zero R r t e = refl

@@ -129,7 +129,7 @@ spread-above l (m ∷ ms) (ns ∷ nss) k i = ⊎-elim
 shift-in : (l n : ℕ) (ns : List ℕ) → n ∈ ns → l + n ∈ shiftAll l ns
 shift-in l n ns i = ∈-map (λ k. l + k) i
 
-in-shift : (l n : ℕ) (ns : List ℕ) → l + n ∈ shiftAll l ns → n ∈ ns
+pub in-shift : (l n : ℕ) (ns : List ℕ) → l + n ∈ shiftAll l ns → n ∈ ns
 in-shift l n ns i = let (d, u, e) = map-∈ (λ k. l + k) ns i in subst (λ (z : ℕ). z ∈ ns) (omega (arith, e)) u
 
 pub to-member : (n : ℕ) (ns : List ℕ) → n ∈ ns → T (member n ns)

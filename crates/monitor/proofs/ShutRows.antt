@@ -5,23 +5,22 @@ use mathlib.Core.List.{List, [], _∷_}
 use mathlib.Core.Logic.{_⊎_, inl, inr, ⊎-elim}
 use Prim.Native.Nat.{ℕ, zero, suc, _+_, _-_, _<_, _≤_, min}
 use native.Mathlib.Omega.{arith}
-use lib.Dec.{T, T-not, eqb, leb}
+use lib.Dec.{T, T-not, eqb, leb, ltb}
 use borrow.Author.Tests.{eq-eqb, ne-eqb, eqb-true, eqb-false, leb-true, leb-false, ltb-true, ltb-false}
-use lib.Dec.{ltb}
 use lib.ListN.{length, getD, set}
 use lib.Seq.{getD-set-same}
 use Rattle.meaning.specs.Lists.{_∈_, total}
 use Rattle.meaning.specs.Answers.{value}
-use Rattle.meaning.specs.Expression.{Letter, Exp, letters, own, size, rows, renumbered, Ordered}
+use Rattle.meaning.specs.Expression.{Exp, letters, own, size, rows, renumbered, Ordered}
 use Rattle.meaning.specs.Numbered.{numberedFrom}
 use Rattle.meaning.specs.Fit.{among}
 use Rattle.meaning.specs.Positions.{has, busy, Positions, at-start, on}
 use Rattle.meaning.specs.Table.{Table, laid, laidAll, noRow}
 use Rattle.meaning.specs.Opening.{Opened}
-use Rattle.meaning.proofs.ListLaws.{here, there, cons-∈, no-∈, is-true}
+use Rattle.meaning.proofs.ListLaws.{here, there, cons-∈, no-∈, by-test}
 use Rattle.meaning.proofs.OneWay.{Closed}
-use Rattle.meaning.proofs.Occupied.{among-at}
-use Rattle.meaning.proofs.Walk.{ThreadsShut, Shuts}
+use Rattle.meaning.proofs.Threads.{among-at}
+use Rattle.meaning.proofs.Walk.{ThreadRow, ThreadsShut, Shuts}
 use Rattle.meaning.proofs.Numbering.{renumbered-size, renumbered-rows, renumbered-ordered, numbered}
 use Rattle.meaning.proofs.Shifted.{shiftPositions, closed-renumbered}
 use Rattle.meaning.proofs.Rows.{Stands, laid-length}
@@ -29,7 +28,7 @@ use Rattle.rules.specs.Watches.{watchOf}
 use Rattle.rules.proofs.Placing.{letters-long}
 use Rattle.monitor.specs.Letters.{Given, threadRowOf, threaded, unthreaded}
 use Rattle.monitor.specs.Threads.{threadRows, threadRowsAll}
-use Rattle.monitor.specs.Ticks.{emptyMemory, ifMarked, eachMarked, shutRow, shutFor, shutBusy}
+use Rattle.monitor.specs.Ticks.{emptyMemory, ifMarked, eachMarked, shutFor, shutBusy}
 use Rattle.monitor.specs.Calls.{givenOf}
 use Rattle.monitor.proofs.Padded.{zeros-at}
 use Rattle.monitor.proofs.Stored.{stands-self, front, rear}
@@ -38,7 +37,7 @@ use Rattle.monitor.proofs.Going.{markedFrom, MarksAre}
 use Rattle.monitor.proofs.Moves.{ordered-counted, MarksAll}
 use Rattle.monitor.proofs.Monitors.{active, AllShut, counted-has}
 use Rattle.monitor.proofs.Numbered.{programOf, InOrder, numbered-in-order}
-use Rattle.monitor.proofs.Shut.{goes, threads-long, ThreadRow, Inner, own-row, inner-row, shuts}
+use Rattle.monitor.proofs.Shut.{goes, threads-long, Inner, wider, own-row, inner-row, shuts}
 use Rattle.monitor.proofs.ThreadRows.{all-threads-long, thread-rows-right, threaded-enough, unthreaded-before}
 use Rattle.monitor.proofs.Program.{Counted, tableOf, program-rows, program-letters}
 
@@ -123,7 +122,7 @@ module _ (g : Given) (K : List ℕ) where
 
 -- ---- the marked letters of a monitor
 
-in-marked : (K : List ℕ) (n l i : ℕ) → l ≤ i → i < l + n → (getD K i 0 ≡ 0 → ⊥) → i ∈ markedFrom K n l
+pub in-marked : (K : List ℕ) (n l i : ℕ) → l ≤ i → i < l + n → (getD K i 0 ≡ 0 → ⊥) → i ∈ markedFrom K n l
 unfolding markedFrom
 in-marked K zero l i x y k = absurd (omega (arith, x, y))
 in-marked K (suc n) l i x y k = by (eqb (getD K l 0) 0) refl (eqb i l) refl (λ z. in-marked K n (suc l) i z (omega (arith, y)) k)
@@ -148,7 +147,7 @@ marked-in K (suc n) l i j = by (eqb (getD K l 0) 0) refl j (λ h. let (x, y, z) 
         (cons-∈ h)
 
 -- they are its active ones
-marks-active : (K : List ℕ) (i n l : ℕ) (z : Positions) → MarksAre K i n l z → markedFrom K n l ≡ active z
+pub marks-active : (K : List ℕ) (i n l : ℕ) (z : Positions) → MarksAre K i n l z → markedFrom K n l ≡ active z
 marks-active K i n l at-start (a, b) = b
 marks-active K i n l (on ns) (a, b) = b
 
@@ -168,31 +167,25 @@ in-range k m o i x y =
     let (l, j, p) = counted-has k (letters m) (ordered-counted k m o) i x (omega (arith, y, d)) in
     among-at (letters m) i l j p
 
-wide : (R : Table) (r n q m v : ℕ) → q ≤ r → r + n ≤ q + m → Inner R r n v → Inner R q m v
-wide R r n q m v a b (inl z) = inl z
-wide R r n q m v a b (inr (x, y, t)) = inr (omega (arith, a, x), omega (arith, b, y), t)
-
 module _ (R : Table) (tr : ℕ → ℕ) where
   -- the letters of a monitor have no row, or that of a thread inside it
   one-inner : (r k : ℕ) (m : Exp) → Ordered k m → Stands R r (laid r r m) → Stands tr k (threadRows r 0 false m) → (i : ℕ) → T (has i m) → Inner R r (rows m) (tr i)
-  one-inner r k m o u s i h = by (among (own m) i) refl
+  one-inner r k m o u s i h = by-test (among (own m) i)
+      (λ e. inl (own-row R tr r 0 false k m (numbered k m o) o s i e ∙ none (goes false i m)))
+      (inner-row R tr r r 0 false k m (numbered k m o) o u s i h)
     where
       none : (b : Bool) → _≡_ {A = ℕ} (cond b 0 0) 0
       none true = refl
       none false = refl
-
-      by : (b : Bool) → among (own m) i ≡ b → Inner R r (rows m) (tr i)
-      by true e = inl (own-row R tr r 0 false k m (numbered k m o) o s i (subst T (sym e) tt) ∙ none (goes false i m))
-      by false e = inner-row R tr r r 0 false k m (numbered k m o) o u s i h (subst (λ z. T (not z)) (sym e) tt)
 
   all-inner : (r k : ℕ) (ms : List Exp) → InOrder k ms → Stands R r (laidAll r ms) → Stands tr k (threadRowsAll r ms) → (i : ℕ) → k ≤ i → i < k + total size ms → Inner R r (total rows ms) (tr i)
   unfolding laidAll threadRowsAll
   all-inner r k [] o u s i x y = absurd (omega (arith, x, y))
   all-inner r k (m ∷ ms) o u s i x y =
       by (ltb i (k + size m)) refl
-      (λ e. wide R r (rows m) r (rows m + total rows ms) (tr i) (omega arith) (omega arith)
+      (λ e. wider R r (rows m) r (rows m + total rows ms) (tr i) (omega arith) (omega arith)
       (one-inner r k m (o .0) (front R r (laid r r m) (laidAll (r + rows m) ms) u) (front tr k (threadRows r 0 false m) (threadRowsAll (r + rows m) ms) s) i (in-range k m (o .0) i x e)))
-      (λ e. wide R (r + rows m) (total rows ms) r (rows m + total rows ms) (tr i) (omega arith) (omega arith)
+      (λ e. wider R (r + rows m) (total rows ms) r (rows m + total rows ms) (tr i) (omega arith) (omega arith)
       (all-inner (r + rows m) (k + size m) ms (o .1)
       (rear R r (r + rows m) (laid r r m) (laidAll (r + rows m) ms) (let d = laid-length r r m in omega (arith, d)) u)
       (rear tr k (k + size m) (threadRows r 0 false m) (threadRowsAll (r + rows m) ms) (let d = threads-long r 0 false m in omega (arith, d)) s) i e (omega (arith, y))))
@@ -234,7 +227,7 @@ module _ (R : Table) (tr : ℕ → ℕ) where
         by true e = let x = low j (ltb-true j l e) in omega (arith, x)
         by false e = ⊎-elim (λ z. omega (arith, z)) (λ (z, w, c). omega (arith, w, a)) (one-inner r l m′ o u s j (in-range l m′ o j (ltb-false j l e) (omega (arith, y, b))))
 
-    pub all-shut : (i r l : ℕ) (ms : List Exp) (xs : List Positions) → ((m : Exp) → m ∈ ms → Ordered 0 m × Closed m) → InOrder l (numberedFrom l ms)
+    all-shut : (i r l : ℕ) (ms : List Exp) (xs : List Positions) → ((m : Exp) → m ∈ ms → Ordered 0 m × Closed m) → InOrder l (numberedFrom l ms)
         → Stands R r (laidAll r (numberedFrom l ms)) → Stands tr l (threadRowsAll r (numberedFrom l ms)) → ((j : ℕ) → j < l → tr j ≤ r)
         → l + total size (numberedFrom l ms) ≡ N → r + total rows (numberedFrom l ms) ≤ top → MarksAll K i l ms xs → AllShut S R r l ms xs
     unfolding numberedFrom laidAll threadRowsAll MarksAll AllShut

@@ -1,5 +1,5 @@
 -- In the tables of an accepted text's watch each letter has the row of the thread that it goes on in; in those of any watch no letter behind the last that is counted has
--- one. Assumes nothing.
+-- one, nor has one before the first. Assumes nothing.
 use mathlib.Core.Path.{_≡_, refl, sym, ap, ap₂, _∙_}
 use mathlib.Core.Bool.{Bool, true, false, cond}
 use mathlib.Core.List.{List, [], _∷_, _++_}
@@ -25,12 +25,13 @@ use Rattle.rules.specs.Watches.{watchOf}
 use Rattle.rules.specs.declared.Watch.{Watch}
 use Rattle.rules.proofs.Overlay.{sets-behind}
 use Rattle.monitor.specs.Letters.{threadRowOf, threaded, unthreaded}
-use Rattle.monitor.specs.Ticks.{firstMarked}
 use Rattle.monitor.specs.Threads.{threadRows, threadRowsAll, goingOn, operandNumber, upOf, rowNumber, rowNumbers, threadOf, threadsFrom}
 use Rattle.monitor.specs.Calls.{writersOf, threadedOf, unthreadedOf, givenOf}
 use Rattle.monitor.proofs.Stored.{stands-at, stands-self, front, rear, each-append, each-at, stored-from, stored-at}
+use Rattle.monitor.proofs.Marked.{before-first, first-low}
 use Rattle.monitor.proofs.Numbered.{programOf, InOrder}
 use Rattle.monitor.proofs.RowWords.{wordOf, laid-up}
+use Rattle.monitor.proofs.Shut.{threads-long, two-laid}
 use Rattle.monitor.proofs.ThreadSteps.{seq-left, seq-right, alt-either, star-body, pipe-left, pipe-right, row-below, row-above, no-letter, thread-stored}
 use Rattle.monitor.proofs.Writers.{up-to-below, beyond, threadsIn, beforeThreads, before-long, counts-are}
 use Rattle.monitor.proofs.Program.{Counted, tableOf, in-order, program-rows, program-letters, words-right, rows-counted}
@@ -84,19 +85,6 @@ thread-coded T false = let e : (2 * T + 0) % 2 ≡ 0 = omega arith in rw e refl
 -- of two operands, which may differ in T and c
 abbrev ofBoth : (r T T′ : ℕ) (c c′ : Bool) (e f : Exp) → List ℕ
 ofBoth r T T′ c c′ e f = threadRows (suc r) T c e ++ threadRows (suc r + rows e) T′ c′ f
-
-two-long : (r T T′ : ℕ) (c c′ : Bool) (e f : Exp) → length (threadRows (suc r) T c e) ≡ size e → length (threadRows (suc r + rows e) T′ c′ f) ≡ size f
-    → length (ofBoth r T T′ c c′ e f) ≡ size e + size f
-two-long r T T′ c c′ e f p q = length-append (threadRows (suc r) T c e) (threadRows (suc r + rows e) T′ c′ f) ∙ ap₂ _+_ p q
-
-threads-long : (r T : ℕ) (c : Bool) (e : Exp) → length (threadRows r T c e) ≡ size e
-unfolding threadRows size
-threads-long r T c (letter l) = refl
-threads-long r T c (seq e f) = two-long r T T true c e f (threads-long (suc r) T true e) (threads-long (suc r + rows e) T c f)
-threads-long r T c (alt e f) = two-long r T T c c e f (threads-long (suc r) T c e) (threads-long (suc r + rows e) T c f)
-threads-long r T c (star e) = threads-long (suc r) T true e
-threads-long r T c (pipe e f) =
-    two-long r T (suc r + rows e) c false e f (threads-long (suc r) T c e) (threads-long (suc r + rows e) (suc r + rows e) false f)
 
 pub all-threads-long : (r : ℕ) (ms : List Exp) → length (threadRowsAll r ms) ≡ total size ms
 unfolding threadRowsAll
@@ -165,14 +153,6 @@ module _ (t : List ℕ) (R : Table) (n : ℕ) (few : n ≤ 1024) (words : (r : �
       ap (threadsFrom t) i ∙ q ∙ ap (λ (A : List ℕ). sets A (k + size e) ys) (p ∙ ap (λ (A : List ℕ). sets A k xs) a)
       ∙ sets-behind (threadsFrom t r) k (k + size e) xs ys (xs ++ ys) (omega (arith, threads-long (suc r) T c e)) refl
 
-  -- the rows of two operands
-  operands : (r : ℕ) (e f : Exp) → Stands R (suc r) (laid (suc r) r e ++ laid (suc r + rows e) r f)
-      → Stands R (suc r) (laid (suc r) r e) × Stands R (suc r + rows e) (laid (suc r + rows e) r f)
-  operands r e f s = (
-    front R (suc r) (laid (suc r) r e) (laid (suc r + rows e) r f) s,
-    rear R (suc r) (suc r + rows e) (laid (suc r) r e) (laid (suc r + rows e) r f) (omega (arith, laid-length (suc r) r e)) s,
-  )
-
   -- an operator with two operands: what is known of each where its rows stand and its own row's number is known
   both-stored : (j r up k T T₁ T₂ : ℕ) (c c₁ c₂ : Bool) (e f : Exp) → 0 < j → j < 65536 → r + (1 + rows e + rows f) ≤ n → wordOf (R r) ≡ quad j (suc r) (suc r + rows e) up
       → Stands R (suc r) (laid (suc r) r e ++ laid (suc r + rows e) r f) → numberOf t r ≡ coded T c
@@ -187,7 +167,7 @@ module _ (t : List ℕ) (R : Table) (n : ℕ) (few : n ≤ 1024) (words : (r : �
       let d : r < n = omega (arith, h) in
       let x = a-row e in
       let y = a-row f in
-      let a = operands r e f s in
+      let a = two-laid R r e f s in
       let u = kind-is r j (suc r) (suc r + rows e) up d w l in
       let v = left-is r j (suc r) (suc r + rows e) up d w (omega (arith, h, few)) in
       let p = ap (λ (i : ℕ). operandNumber (getD t r 0) i (suc r)) q in
@@ -293,26 +273,6 @@ module _ (v : Watch) (σ w : List ℕ) where
         λ l h k. thread-word l k ∙ ap part0 (eqb-true (getD (threadsIn v) l 0) 0 (beyond (λ i. eqb (getD (threadsIn v) i 0) 0) 256 l (omega (arith, e, h)) k)),
         omega (arith, e, few),
       )
-
--- a letter before the first that is marked is not
-before-first : (K : List ℕ) (n l i : ℕ) → l ≤ i → i < firstMarked K n l → getD K i 0 ≡ 0
-unfolding firstMarked
-before-first K zero l i x y = absurd (omega (arith, x, y))
-before-first K (suc n) l i x y = by (eqb (getD K l 0) 0) refl (eqb i l) refl y (λ z w. before-first K n (suc l) i z w)
-  where
-    by : (b : Bool) → eqb (getD K l 0) 0 ≡ b → (c : Bool) → eqb i l ≡ c → i < cond b (firstMarked K n (suc l)) l → (suc l ≤ i → i < firstMarked K n (suc l) → getD K i 0 ≡ 0) → getD K i 0 ≡ 0
-    by true e true q w more = ap (λ (z : ℕ). getD K z 0) (eqb-true i l q) ∙ eqb-true (getD K l 0) 0 e
-    by true e false q w more = more (let s = eqb-false i l q in omega (arith, x, s)) w
-    by false e c q w more = absurd (omega (arith, x, w))
-
-first-low : (K : List ℕ) (n l : ℕ) → firstMarked K n l ≤ l + n
-unfolding firstMarked
-first-low K zero l = omega arith
-first-low K (suc n) l = by (eqb (getD K l 0) 0) (first-low K n (suc l))
-  where
-    by : (b : Bool) → firstMarked K n (suc l) ≤ suc l + n → cond b (firstMarked K n (suc l)) l ≤ l + suc n
-    by true h = omega (arith, h)
-    by false h = omega arith
 
 -- nor has a letter before the first that is counted
 module _ (v : Watch) (σ w : List ℕ) where

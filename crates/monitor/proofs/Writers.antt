@@ -1,4 +1,4 @@
--- Behind the last letter that writes nothing is written, so that far is far enough. Assumes nothing.
+-- Behind the last letter that writes nothing is written, so that far is far enough; and the word of a watch's tables that has that number and those for threads. Assumes nothing.
 use mathlib.Core.Path.{_≡_, refl, sym, _∙_, ap}
 use mathlib.Core.Bool.{Bool, true, false, cond, _&&_}
 use mathlib.Core.List.{List}

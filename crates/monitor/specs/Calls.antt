@@ -39,11 +39,11 @@ writersOf c n = upTo (λ l. eqb (getD c (4 * l + 2) 0) 0 && eqb (getD c (4 * l +
 abbrev pub threadedOf : (threads : List ℕ) → (n : ℕ) → ℕ
 threadedOf t n = upTo (λ l. eqb (getD t l 0) 0) n
 
--- of a watch, with the threads of its letters
 -- before the first that does
 abbrev pub unthreadedOf : (threads : List ℕ) → (n : ℕ) → ℕ
 unthreadedOf t n = firstMarked t n 0
 
+-- of a watch, with the threads of its letters
 abbrev pub lettersBy : Watch → (threads : List ℕ) → List ℕ
 lettersBy v t = lettersOf (v .look) (v .want) (v .held) t (writersOf (v .links) 256) (threadedOf t 256) (unthreadedOf t 256)
 

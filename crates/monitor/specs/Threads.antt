@@ -1,6 +1,7 @@
--- The thread that each letter goes on in: the right operand of an `@`, named by its row. A letter goes on there if, when it is left, more of the thread follows: it
--- stands below a `*` or in the left operand of a `,` of that thread, which in an accepted text (rule 11) is so exactly if it is no last letter of it. Once over expressions (`threadRows`), and once over a table's words, as the code has it
--- (`threadsOf`); proofs/ThreadRows says that for an accepted text they agree, proofs/Shut what that has to do with busy threads. Assumes nothing.
+-- The thread that each letter goes on in: the right operand of an `@`, named by its row (docs/REFERENCE.md, F17). A letter goes on there if, when it is left, more of the
+-- thread follows: it stands below a `*` or in the left operand of a `,` of that thread, which in an accepted text (S12) is so exactly if it is no last letter of it. Once over
+-- expressions (`threadRows`), and once over a table's words, as the code has it (`threadsOf`); proofs/ThreadRows says that for an accepted text they agree, proofs/Shut what
+-- that has to do with busy threads. Assumes nothing.
 use mathlib.Core.Bool.{Bool, true, false, cond}
 use mathlib.Core.List.{List, [], _∷_, _++_}
 use Prim.Native.Nat.{ℕ, zero, suc, _+_, _*_, _/_, _%_, min}

@@ -19,7 +19,8 @@ use Rattle.meaning.proofs.ListLaws.{here, append-∈, one-∈, ∈-each, ∈-on
 use Rattle.meaning.proofs.OneWay.{Numbered, last-has}
 use Rattle.meaning.proofs.Numbering.{between, numbered}
 use Rattle.masks.proofs.Masks.{agree-compatible, compatible-agree}
-use Rattle.meaning.proofs.Rules.{some-in, in-some, open-end-at, threads-letters, beside-letters, ambiguous-by}
+use Rattle.meaning.proofs.Rules.{some-in, in-some, open-end-at, beside-letters, ambiguous-by}
+use Rattle.meaning.proofs.Threads.{threads-letters}
 use Rattle.meaning.proofs.Shaped.{least-in, least-le}
 use Rattle.meaning.proofs.Summary.{rules11and12}
 use Rattle.shape.specs.Ends.{Ends, letterEnds, starEnds, joinedEnds, openAt}

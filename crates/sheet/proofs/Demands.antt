@@ -1,10 +1,11 @@
 -- The demands on the line watch, as statements, each with the theorem that proves it. Definitions stand in specs/, proofs where a citation names them; docs/PROOF.md says
 -- each statement in words. Assumes nothing.
 use mathlib.Core.Path.{_≡_, _∙_, sym, subst}
-use mathlib.Core.Bool.{Bool, true}
-use mathlib.Core.Logic.{_↔_}
+use mathlib.Core.Bool.{Bool, true, not}
+use mathlib.Core.Logic.{_⊎_, _↔_}
 use mathlib.Core.List.{List, [], _∷_, _++_, map}
-use Prim.Native.Nat.{ℕ, _-_, _<_, _≤_}
+use Prim.Native.Nat.{ℕ, suc, _-_, _<_, _≤_}
+use lib.Dec.{T}
 use lib.ListN.{length, getD, replicate}
 use Rattle.refusals.specs.Numbers.{overlong}
 use Rattle.lexer.specs.Tokens.{Placed}
@@ -39,16 +40,16 @@ use Rattle.meaning.specs.Table.{laidAll}
 use Rattle.meaning.specs.Numbered.{numberedFrom}
 use Rattle.meaning.specs.Calls.{Call, look, take, Reply, opening, standing, taken, takenReplies, AllRightly}
 use Rattle.meaning.specs.Lists.{_∈_}
-use Rattle.meaning.specs.Expression.{Exp}
-use Rattle.meaning.specs.Shape.{threads}
-use Rattle.meaning.specs.Fit.{Tick, Run, anything, runs, branches, required, fits, start}
+use Rattle.meaning.specs.Expression.{Letter, Exp, letters, own}
+use Rattle.meaning.specs.Shape.{last, threads}
+use Rattle.meaning.specs.Fit.{Tick, Run, anything, runs, branches, among, required, fits, start}
 use Rattle.meaning.specs.Sheet.{sheet}
 use Rattle.meaning.proofs.Exactly as exactly
 use Rattle.meaning.proofs.Viable as viable
 use Rattle.meaning.proofs.Rows.{rows-no-more}
-use Rattle.meaning.proofs.Accept.{accept}
 use Rattle.meaning.proofs.Openings as openings
 use Rattle.meaning.proofs.Requires as requires
+use Rattle.meaning.proofs.StartEnds as ends
 use Rattle.meaning.proofs.Calls.{length-replies, replies-rightly}
 use Rattle.masks.proofs.passes.Statement as passes
 use Rattle.masks.proofs.passes.Met as passes-met
@@ -233,10 +234,27 @@ pub fits-exactly : (m : Exp) (ts : List Tick)
     → (_≡_ {A = Bool} (fits m ts) true) ↔ ((r : Run) × (r ∈ branches m ts) × ((f : Exp) → f ∈ threads m → (k : ℕ) → required f (getD r k []) ≤ 1))
 fits-exactly = requires.fits-exactly
 
--- So many starts of the thread require a letter there: each run of a start requires one letter a tick, for so many ticks from its first one on, and none behind them.
+-- What a start of a thread adds to that count: each of its runs has one letter of the thread's own a tick, for so many ticks from its first one on, and none behind them.
 pub start-requires : (text : List ℕ) (o : Opened) → openText text ≡ value o → (m : Exp) → m ∈ o .monitors → (f : Exp) → f ∈ threads m → (ts : List Tick) (r : Run) → r ∈ runs f anything ts
     → (n : ℕ) × (n ≤ length ts) × (0 < length ts → 0 < n) × ((k : ℕ) → k < n → required f (getD r k []) ≡ 1) × ((k : ℕ) → n ≤ k → required f (getD r k []) ≡ 0)
-start-requires text o e m i = let (a, s) = openings.all-read text o e m i in requires.start-requires m (accept m a s)
+start-requires text o e m i = requires.start-requires m (openings.all-accepted text o e m i)
+
+-- These ticks end with a last letter of the thread: at the tick behind one the start requires none, behind any other of its letters it requires one.
+pub start-ends : (text : List ℕ) (o : Opened) → openText text ≡ value o → (m : Exp) → m ∈ o .monitors → (f : Exp) → f ∈ threads m → (ts : List Tick) (r : Run) → r ∈ runs f anything ts
+    → (k n : ℕ) → n ∈ getD r k [] → T (among (own f) n)
+    → (T (last n f) → required f (getD r (suc k) []) ≡ 0) × (T (not (last n f)) → suc k < length ts → required f (getD r (suc k) []) ≡ 1)
+start-ends text o e m i = ends.start-ends m (openings.all-accepted text o e m i)
+
+-- Each letter of a thread is its own or that of a thread inside it, never both: the inner one alone requires it.
+pub innermost : (text : List ℕ) (o : Opened) → openText text ≡ value o → (m : Exp) → m ∈ o .monitors → (f : Exp) → f ∈ threads m
+    → ((x : Letter) → x ∈ letters f → (x ∈ own f) ⊎ ((g : Exp) × (g ∈ threads f) × (x ∈ own g))) × ((g : Exp) → g ∈ threads f → (x : Letter) → x ∈ own g → x ∈ own f → ⊥)
+innermost text o e m i = requires.innermost m (openings.all-accepted text o e m i)
+
+-- So after any calls at most one of the letters marked in the watch is a thread's own; letters are numbered over all monitors there.
+pub one-active : (text : List ℕ) (o : Opened) → openText text ≡ value o → (cs : List Call) (m : Exp) → m ∈ numberedFrom 0 (o .monitors) → (f : Exp) → f ∈ threads m
+    → (a b : ℕ) → T (among (own f) a) → T (among (own f) b)
+    → (getD (watchAfterAll (watchOf (value o)) cs .marks) a 0 ≡ 0 → ⊥) → (getD (watchAfterAll (watchOf (value o)) cs .marks) b 0 ≡ 0 → ⊥) → a ≡ b
+one-active = calls.one-active
 
 -- What comes of looks among takes. These follow from how calls go one behind the other (`repliesOf`, `watchAfterAll`); the code is bound to that by `look-entry` and
 -- `take-entry`, which have one `replyOf`, and by `look` having no watch to give back.
