@@ -10,7 +10,7 @@ use lib.Bits.{bitOr, or-add-and, and-le-l, and-le-r}
 use lib.ListN.{getD, length, take, drop, replicate, set, getD-replicate, List·getD-eq-default}
 use lib.Seq.{sets, getD-drop, getD-set-other, set-getD, take-all}
 use Rattle.rules.proofs.Starting.{values-more}
-use Rattle.monitor.specs.Ticks.{firstMarked, marksAfter}
+use Rattle.monitor.specs.Ticks.{firstMarked, ifMarked, eachMarked, marksAfter}
 use Rattle.monitor.proofs.LetterSteps.{taken, left}
 
 -- ---- eight at once
@@ -50,6 +50,20 @@ eight-zero K l z =
     by a b c d e f g h (suc (suc (suc (suc (suc (suc zero)))))) q = g
     by a b c d e f g h (suc (suc (suc (suc (suc (suc (suc zero))))))) q = h
     by a b c d e f g h (suc (suc (suc (suc (suc (suc (suc (suc i)))))))) q = absurd (omega (arith, q))
+
+-- ---- marked letters, one after the other
+
+-- for a letters, and then for b more
+pub each-split : (K : List ℕ) (f : ℕ → List ℕ → List ℕ) (a b l : ℕ) (σ : List ℕ) → eachMarked K f (a + b) l σ ≡ eachMarked K f b (l + a) (eachMarked K f a l σ)
+unfolding eachMarked
+each-split K f zero b l σ =
+    let e : l ≡ l + 0 = omega arith in
+    let d : 0 + b ≡ b = omega arith in
+    ap₂ (λ (n k : ℕ). eachMarked K f n k σ) d e
+each-split K f (suc a) b l σ =
+    let e : suc l + a ≡ l + suc a = omega arith in
+    let d : suc a + b ≡ suc (a + b) = omega arith in
+    ap (λ (n : ℕ). eachMarked K f n l σ) d ∙ each-split K f a b (suc l) (ifMarked K f l σ) ∙ ap (λ (n : ℕ). eachMarked K f b n (eachMarked K f a (suc l) (ifMarked K f l σ))) e
 
 -- ---- from the first marked letter on
 

@@ -3,7 +3,7 @@ use mathlib.Core.Path.{_≡_, refl, sym, ap, ap₂, _∙_, subst}
 use mathlib.Core.Bool.{Bool, true, false, not, cond}
 use mathlib.Core.List.{List, [], _∷_, _++_, append-assoc}
 use mathlib.Core.Logic.{⊎-elim}
-use Prim.Native.Nat.{ℕ, zero, suc, _+_, _<_, _≤_}
+use Prim.Native.Nat.{ℕ, suc, _+_, _<_, _≤_}
 use native.Mathlib.Omega.{arith}
 use lib.Dec.{T, eqb, eqb→eq, eqb-refl}
 use lib.ListN.{length, getD}
@@ -17,6 +17,7 @@ use Rattle.rules.proofs.Placing.{letters-long}
 use Rattle.monitor.specs.Letters.{Given, writeLetter}
 use Rattle.monitor.specs.Ticks.{eachMarked, writeIf, writeMarked}
 use Rattle.monitor.proofs.LetterTests.{writes-length}
+use Rattle.monitor.proofs.Marked.{each-split}
 use Rattle.monitor.proofs.Going.{markedFrom, MarksAre, spread}
 
 -- ---- letters in reading order
@@ -197,17 +198,6 @@ marks-all K i l (m ∷ ms) (ns ∷ nss) o z a = (
   marks-all K (suc i) (l + size m) ms nss (λ x j. o x (there j)) (λ k u v. z k (omega arith) (omega (arith, v))) (a .1),
 )
 
-pub writes-split : (g : Given) (K : List ℕ) (a b l : ℕ) (σ : List ℕ) → writeMarked g K (a + b) l σ ≡ writeMarked g K b (l + a) (writeMarked g K a l σ)
-unfolding eachMarked
-writes-split g K zero b l σ =
-    let e : l ≡ l + 0 = omega arith in
-    let f : 0 + b ≡ b = omega arith in
-    ap₂ (λ (n k : ℕ). writeMarked g K n k σ) f e
-writes-split g K (suc a) b l σ =
-    let e : suc l + a ≡ l + suc a = omega arith in
-    let f : suc a + b ≡ suc (a + b) = omega arith in
-    ap (λ (n : ℕ). writeMarked g K n l σ) f ∙ writes-split g K a b (suc l) (writeIf g K l σ) ∙ ap (λ (n : ℕ). writeMarked g K b n (writeMarked g K a (suc l) (writeIf g K l σ))) e
-
 module _ (g : Given) (t : Tick) (K : List ℕ) (pad : List ℕ → List ℕ) (stores : ℕ) where
   -- every letter's numbers write what the letter does
   unfoldable pub AllWriteAs : (l : ℕ) → List Exp → Type 0
@@ -225,7 +215,7 @@ module _ (g : Given) (t : Tick) (K : List ℕ) (pad : List ℕ → List ℕ) (st
       let z : l + 0 ≡ l = omega arith in
       let h = marks-written g t K l ns pad stores 0 (letters m) (ordered-counted 0 m (o m (here refl))) (whole K l m ns (a .0)) (w .0) σ e in
       let r = writes-all (l + size m) ms nss (λ x j. o x (there j)) (a .1) (w .1) (carry (writesOf t ns) σ (letters m)) (h .1) in (
-        writes-split g K (size m) (total size ms) l (pad σ)
+        each-split K (writeLetter g) (size m) (total size ms) l (pad σ)
             ∙ ap (writeMarked g K (total size ms) (l + size m)) (ap₂ (λ (p q : ℕ). writeMarked g K p q (pad σ)) (sym (letters-long m)) (sym z) ∙ h .0)
             ∙ r .0,
         r .1,

@@ -20,7 +20,7 @@ use Rattle.monitor.specs.Calls.{Moving, tablesOf, withState, refusedBy, 
 use Rattle.monitor.specs.Shown.{shownAnswer}
 use Rattle.monitor.specs.declared.Answer.the-variants.{Ok, Bad, Refused}
 use Rattle.monitor.proofs.LetterSteps.{taken, left}
-use Rattle.monitor.proofs.Marked.{to-first}
+use Rattle.monitor.proofs.Marked.{each-split, to-first}
 
 -- ---- what is done for marked letters; f is what is done for one
 
@@ -42,13 +42,26 @@ module _ (K : List ℕ) (f : ℕ → List ℕ → List ℕ) where
   pub done-first : (n : ℕ) (σ : List ℕ) (j : ℕ) → j ≡ firstMarked K (n - 0) 0 → eachMarked K f n 0 σ ≡ eachMarked K f (n - j) j σ
   done-first n σ j e = let d : n ≡ n - 0 = omega arith in ap (λ (m : ℕ). eachMarked K f m 0 σ) d ∙ to-first-done n 0 σ j e
 
+  -- done for m letters, and then for those that are left
+  pub done-some : (m n i : ℕ) (σ τ : List ℕ) → i + m ≤ n → τ ≡ eachMarked K f m i σ → eachMarked K f (n - i) i σ ≡ eachMarked K f (n - (i + m)) (i + m) τ
+  done-some m n i σ τ h e =
+      let d : n - i ≡ m + (n - (i + m)) = omega arith in
+      ap (λ (k : ℕ). eachMarked K f k i σ) d ∙ each-split K f m (n - (i + m)) i σ ∙ ap (eachMarked K f (n - (i + m)) (i + m)) (sym e)
+
+  pub done-one : (n i : ℕ) (σ τ : List ℕ) → i < n → τ ≡ ifMarked K f i σ → eachMarked K f (n - i) i σ ≡ eachMarked K f (n - (i + 1)) (i + 1) τ
+  unfolding eachMarked
+  done-one n i σ τ h e = done-some 1 n i σ τ (omega (arith, h)) e
+
   pub done-more : (n i : ℕ) (σ τ : List ℕ) → i < n → τ ≡ ifMarked K f i σ → (j : ℕ) → j ≡ firstMarked K (n - (i + 1)) (i + 1)
       → eachMarked K f (n - i) i σ ≡ eachMarked K f (n - j) j τ
+  done-more n i σ τ h e j q = done-one n i σ τ h e ∙ to-first-done n (i + 1) τ j q
+
+  -- done for n letters, and for the next one
+  pub and-next : (n l : ℕ) (σ ρ τ : List ℕ) → ρ ≡ eachMarked K f n l σ → τ ≡ ifMarked K f (l + n) ρ → τ ≡ eachMarked K f (suc n) l σ
   unfolding eachMarked
-  done-more n i σ τ l e j q =
-      let d : n - i ≡ suc (n - (i + 1)) = omega arith in
-      let s : suc i ≡ i + 1 = omega arith in
-      ap (λ (m : ℕ). eachMarked K f m i σ) d ∙ ap₂ (λ (j : ℕ) (υ : List ℕ). eachMarked K f (n - (i + 1)) j υ) s (sym e) ∙ to-first-done n (i + 1) τ j q
+  and-next n l σ ρ τ p q =
+      let d : suc n ≡ n + 1 = omega arith in
+      q ∙ ap (ifMarked K f (l + n)) p ∙ sym (ap (λ (m : ℕ). eachMarked K f m l σ) d ∙ each-split K f n 1 l σ)
 
   -- all are done, and x is what was to be done
   pub done-up : (n i : ℕ) (x τ : List ℕ) → n ≤ i → x ≡ eachMarked K f (n - i) i τ → τ ≡ x

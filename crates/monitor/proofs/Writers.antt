@@ -17,7 +17,7 @@ use Rattle.monitor.specs.Ticks.{eachMarked, writeIf, writeMarked, writer
 use Rattle.monitor.specs.Threads.{threadsOf}
 use Rattle.monitor.specs.Calls.{upTo, writersOf, threadedOf, unthreadedOf, givenOf}
 use Rattle.monitor.proofs.LetterSteps.{neither, both, no-write}
-use Rattle.monitor.proofs.Moves.{writes-split}
+use Rattle.monitor.proofs.Marked.{each-split}
 
 -- ---- the last letter that is not idle
 
@@ -117,7 +117,7 @@ module _ (g : Given) (K : List ℕ) where
       let e : n ≡ m + (n - m) = omega arith in
       let o : 0 + m ≡ m = omega arith in
       sym
-      (ap (λ (k : ℕ). writeMarked g K k 0 σ) e ∙ writes-split g K m (n - m) 0 σ
+      (ap (λ (k : ℕ). writeMarked g K k 0 σ) e ∙ each-split K (writeLetter g) m (n - m) 0 σ
       ∙ none-written (n - m) (0 + m) (λ i l. z (0 + m + i) (omega arith) (omega (arith, l))) (writeMarked g K m 0 σ))
 
 -- ---- in a watch's tables
