@@ -9,12 +9,13 @@ use borrow.Author.Tests.{eq-eqb, ne-eqb, lt-ltb, le-ltb, lt-leb, le-leb, leb-tru
 use lib.Dec.{eqb, leb, ltb}
 use lib.ListN.{getD, set}
 use lib.Pow.{pow-pos, pow-mono}
+use lib.Seq.{set-getD}
 use Rattle.meaning.specs.Fit.{ok as clean, bad as broken}
 use Rattle.meaning.specs.Calls.{Reply, refused, isStray, isFull, reply, after, replyOf as verdictReply}
 use Rattle.words.specs.Words.{part1}
 use Rattle.monitor.specs.Letters.{Given, given, threaded, unthreaded}
 use Rattle.monitor.specs.Walk.{Told, told, askM, leaveM}
-use Rattle.monitor.specs.Ticks.{steps, Layout, layout, firstMarked, ifMarked, eachMarked, shutRow, shutFor, shutBusy, andThen, letterGoes, lettersGo, startGoes, lettersEnd, monitorGoes, Reached, reached, reachedBy, monitorsGo, marksAfter, writeMarked, writers, Move, move, emptyMemory, moveBy, stepWithin, stepOf, within, stuckAt}
+use Rattle.monitor.specs.Ticks.{steps, Layout, layout, firstMarked, ifMarked, eachMarked, shutRow, shutCode, shutFor, shutBusy, andThen, letterGoes, lettersGo, startGoes, lettersEnd, monitorGoes, Reached, reached, reachedBy, monitorsGo, marksAfter, writeMarked, writers, Move, move, emptyMemory, moveBy, stepWithin, stepOf, within, stuckAt}
 use Rattle.rules.specs.declared.Watch.{Watch}
 use Rattle.monitor.specs.Calls.{Moving, tablesOf, withState, refusedBy, stateOf, judge, onward, stepFrom, layoutOf, replyOf, watchAfter}
 use Rattle.monitor.specs.Shown.{shownAnswer}
@@ -72,14 +73,15 @@ module _ (K : List ℕ) (f : ℕ → List ℕ → List ℕ) where
 
 -- ---- threads that are busy
 
-pub no-thread : (r : ℕ) (M : List ℕ) → r ≡ 0 → M ≡ shutRow r M
-no-thread r M z = sym (taken (eqb r 0) M _ (eq-eqb r 0 z))
+pub no-such-row : (r : ℕ) (M : List ℕ) → 1024 ≤ r → M ≡ shutRow r M
+no-such-row r M h = sym (left (eqb r 0) M _ (ne-eqb r 0 (λ z. omega (arith, z, h))) ∙ taken (leb 1024 r) M _ (le-leb 1024 r h))
 
-pub no-such-row : (r : ℕ) (M : List ℕ) → (r ≡ 0 → ⊥) → 1024 ≤ r → M ≡ shutRow r M
-no-such-row r M z h = sym (left (eqb r 0) M _ (ne-eqb r 0 z) ∙ taken (leb 1024 r) M _ (le-leb 1024 r h))
-
-pub shut-row : (r : ℕ) (M N : List ℕ) → (r ≡ 0 → ⊥) → r < 1024 → N ≡ set M r 1 → N ≡ shutRow r M
-shut-row r M N z h e = e ∙ sym (left (eqb r 0) M _ (ne-eqb r 0 z) ∙ left (leb 1024 r) M _ (lt-leb 1024 r h))
+pub shut-row : (r c : ℕ) (M : List ℕ) → r < 1024 → c ≡ shutCode r (getD M r 0) → set M r c ≡ shutRow r M
+shut-row r c M h e = ap (set M r) e ∙ by (eqb r 0) ∙ ap (cond (eqb r 0) M) (sym (left (leb 1024 r) M _ (lt-leb 1024 r h)))
+  where
+    by : (b : Bool) → set M r (cond b (getD M r 0) 1) ≡ cond b M (set M r 1)
+    by true = set-getD M r 0
+    by false = refl
 
 -- ---- active positions go on
 

@@ -46,6 +46,10 @@ eachMarked marks f (suc n) l σ = eachMarked marks f n (suc l) (ifMarked marks f
 abbrev pub shutRow : (r : ℕ) → List ℕ → List ℕ
 shutRow r M = cond (eqb r 0) M (cond (leb 1024 r) M (set M r 1))
 
+-- what is then kept of row r, of which `known` was
+abbrev pub shutCode : (r known : ℕ) → ℕ
+shutCode r v = cond (eqb r 0) v 1
+
 -- the thread that letter l goes on in
 abbrev pub shutFor : Given → (l : ℕ) → List ℕ → List ℕ
 shutFor g l M = shutRow (threadRowOf g l) M

@@ -8,19 +8,27 @@ ghost use mathlib.Core.Path.{_≡_};
 ghost use mathlib.Core.List.{List};
 ghost use Prim.Native.Nat.{ℕ, _+_, _-_, _<_, _≤_};
 ghost use Rattle.monitor.specs.Letters.{given};
-ghost use Rattle.monitor.specs.Ticks.{ifMarked, eachMarked, shutRow, shutFor};
+ghost use Rattle.monitor.specs.Ticks.{ifMarked, eachMarked, shutCode, shutRow, shutFor};
 
-// Keeps a row as blocked; nothing for row 0, which is a monitor's own, and for one that is not there.
+// What is kept of a row that is shut: row 0, which is a monitor's own and stands for no thread, is left as it is.
+fn shut_code(row: usize, known: u8) -> u8
+    ensures { λ r. ⌜ r ≡ shutCode row known ⌝ }
+{
+    if row == 0 {
+        return known;
+    }
+    BLOCKED
+}
+
+// Keeps a row as blocked; nothing for one that is not there. Row 0 is stored as it was, since a branch to pass over it would cost
+// more: nothing foretells it.
 fn shut_row(row: usize, memory: &mut [u8; 1280])
     ensures { λ _. ⌜ now (memory .exit) ≡ shutRow row (now (memory .entry)) ⌝ }
 {
-    if row == 0 {
-        return;
-    }
     if 1024 <= row {
         return;
     }
-    memory[row] = BLOCKED;
+    memory[row] = shut_code(row, memory[row]);
 }
 
 // The thread that a letter goes on in, if the letter is marked.

@@ -2,8 +2,7 @@
 -- Assumes nothing.
 use borrow.Author.Needs.{needs}
 use native.Mathlib.Omega.{arith}
-use mathlib.Core.Path.{refl}
-use Rattle.monitor.proofs.TickSteps.{no-thread, no-such-row, shut-row}
+use Rattle.monitor.proofs.TickSteps.{no-such-row, shut-row}
 use Rattle.monitor.proofs.busy.shut_row.Statement.{statement}
 use Rattle.monitor.proofs.busy.shut_row.Tie as tie
 
@@ -11,7 +10,8 @@ pub shut-row-spec : {M : Type 1} → statement M
 shut-row-spec =
     tie.close
     (tie.spec
-    (λ c. let a = c .before .args in no-thread (a .row) (a .memory .now) (c .if1 .taken))
-    (λ c. let a = c .before .before .args in no-such-row (a .row) (a .memory .now) (c .before .if1 .left) (c .if2 .taken))
+    (λ c. let a = c .before .args in no-such-row (a .row) (a .memory .now) (c .if1 .taken))
     (λ c. search needs)
-    (λ c. let a = c .before .before .args in shut-row (a .row) (a .memory .now) _ (c .before .if1 .left) (omega arith) refl))
+    (λ c. search needs)
+    (λ c. search needs)
+    (λ c. let a = c .before .before .before .args in shut-row (a .row) _ (a .memory .now) (omega arith) (c .shut-code .ensures)))
