@@ -282,7 +282,7 @@ module _ (text : List ℕ) (o : Opened) (e : openText text ≡ value o) where
         values = ap (λ (u : Watch). u .values) w ∙ l .values ∙ ap padded (sym (t .2));
       }
 
-  -- F17 in the watch: after any list of calls at most one of the marked letters is a thread's own.
+  -- F17 in the watch: after any list of calls each thread has at most one letter of its own marked.
   pub one-active : (cs : List Call) (m : Exp) → m ∈ numberedFrom 0 (o .monitors) → (f : Exp) → f ∈ threads m → (a b : ℕ) → T (among (own f) a) → T (among (own f) b)
       → (getD (watchAfterAll (watchOf (value o)) cs .marks) a 0 ≡ 0 → ⊥) → (getD (watchAfterAll (watchOf (value o)) cs .marks) b 0 ≡ 0 → ⊥) → a ≡ b
   unfolding v

@@ -31,7 +31,7 @@ mod Writers
 mod Shut
 -- in the watch of an accepted text
 mod ShutRows
--- of the marked letters at most one is a thread's own
+-- each thread has at most one letter of its own marked
 mod Single
 -- a tick, by the loops and branches of the code
 pub mod TickSteps

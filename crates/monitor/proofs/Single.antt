@@ -1,4 +1,4 @@
--- F17 in a watch's marks: where these are the machine's positions, at most one of the marked letters is a thread's own. Assumes nothing.
+-- F17 in a watch's marks: where these are the machine's positions, each thread has at most one letter of its own marked. Assumes nothing.
 use mathlib.Core.Path.{_≡_, refl, sym, ap, _∙_, subst}
 use mathlib.Core.Bool.{Bool}
 use mathlib.Core.List.{List, [], _∷_}
@@ -53,7 +53,7 @@ module _ (l : ℕ) where
   active-shifted (on ns) n i = in-shift l n ns i
 
 module _ (K : List ℕ) where
-  -- of the marked letters at most one is an own letter of a thread of m
+  -- each thread of m has at most one letter of its own marked
   abbrev OneMarked : Exp → Type 0
   OneMarked m = (f : Exp) → f ∈ threads m → (a b : ℕ) → T (among (own f) a) → T (among (own f) b) → (getD K a 0 ≡ 0 → ⊥) → (getD K b 0 ≡ 0 → ⊥) → a ≡ b
 

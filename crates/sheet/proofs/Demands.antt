@@ -250,7 +250,7 @@ pub innermost : (text : List ℕ) (o : Opened) → openText text ≡ value o →
     → ((x : Letter) → x ∈ letters f → (x ∈ own f) ⊎ ((g : Exp) × (g ∈ threads f) × (x ∈ own g))) × ((g : Exp) → g ∈ threads f → (x : Letter) → x ∈ own g → x ∈ own f → ⊥)
 innermost text o e m i = requires.innermost m (openings.all-accepted text o e m i)
 
--- So after any calls at most one of the letters marked in the watch is a thread's own; letters are numbered over all monitors there.
+-- So after any calls each thread has at most one letter of its own marked in the watch, where letters are numbered over all monitors.
 pub one-active : (text : List ℕ) (o : Opened) → openText text ≡ value o → (cs : List Call) (m : Exp) → m ∈ numberedFrom 0 (o .monitors) → (f : Exp) → f ∈ threads m
     → (a b : ℕ) → T (among (own f) a) → T (among (own f) b)
     → (getD (watchAfterAll (watchOf (value o)) cs .marks) a 0 ≡ 0 → ⊥) → (getD (watchAfterAll (watchOf (value o)) cs .marks) b 0 ≡ 0 → ⊥) → a ≡ b
