@@ -31,7 +31,7 @@ impl Dice {
 const TRIES: usize = 256;
 
 /// Words that keep the rules: of those that `drawn` makes of random bits and the word before, the ones that a look finds ok, and behind which another is: a thread
-/// that was started while it ran leaves no word that is.
+/// that was started while it ran leaves no word that is. Behind the last word the watch may be full, and nothing is asked.
 fn words(text: &[u8], drawn: impl Fn(u64, u64) -> u64) -> Vec<u64> {
     let program = second::open(text).expect("the text is accepted");
     let mask = if program.wires() == 64 { u64::MAX } else { (1 << program.wires()) - 1 };
@@ -46,7 +46,8 @@ fn words(text: &[u8], drawn: impl Fn(u64, u64) -> u64) -> Vec<u64> {
         }
         let mut next = watch.clone();
         next.take(word);
-        if (0..TRIES).any(|_| next.look(drawn(dice.roll(), word) & mask) == Answer::Ok) {
+        let last = words.len() + 1 == TICKS;
+        if last || (0..TRIES).any(|_| next.look(drawn(dice.roll(), word) & mask) == Answer::Ok) {
             watch = next;
             words.push(word);
             before = word;
