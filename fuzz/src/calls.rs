@@ -5,10 +5,11 @@
 use crate::compare::words;
 use crate::model::{Model, Said};
 use crate::random::Random;
-use crate::{grow, threads, Case};
+use crate::rows::Touched;
+use crate::{grow, opened, threads, Case};
 use second::stage::Entry;
 use second::{Answer, Watch};
-use std::collections::BTreeMap;
+use std::collections::{BTreeMap, BTreeSet};
 
 /// Bytes of a call: `L` for a look or `T` for a take, and its word, lowest byte first.
 pub const LENGTH: usize = 9;
@@ -162,7 +163,7 @@ impl Busy {
     fn count_calls(&mut self, calls: &[u8], mut watch: Watch, mut model: Model) {
         let mut looks = 0;
         for (letter, word) in calls_of(calls) {
-            let answer = if letter == TAKE { watch.take(word) } else { watch.look(word) };
+            let answer = if letter == TAKE { watch.take(word).answer } else { watch.look(word) };
             let is_busy = matches!(answer, Answer::Bad(_)) && matches!(model.look(word), Said::Busy(_));
             if letter == LOOK {
                 looks += u64::from(is_busy);
@@ -175,6 +176,54 @@ impl Busy {
             }
         }
     }
+}
+
+/// How many cases have a take whose number of rows is easily missed.
+#[derive(Clone, Copy, Debug, Default, PartialEq, Eq)]
+pub struct Touches {
+    /// Cases that are accepted.
+    pub cases: u64,
+    /// Those with an ok take at which two letters met before lead to one row: one of a thread, and one behind which that thread may start.
+    pub shared_ok: u64,
+    /// Those with such a take that is bad.
+    pub shared_bad: u64,
+    /// Those with a take that is bad for another monitor than the last: the rows of those behind it count too.
+    pub not_last: u64,
+}
+
+impl Touches {
+    /// Counts a case.
+    pub fn count(&mut self, case: &Case) {
+        let Ok(program) = second::open(&case.text) else {
+            return;
+        };
+        let opened = opened::open(std::str::from_utf8(&case.text).expect("an accepted text is ASCII"));
+        let (mut watch, mut model) = (Watch::new(&program), Model::new(&opened));
+        let (mut shared_ok, mut shared_bad, mut not_last) = (false, false, false);
+        for (_, word) in calls_of(&case.trace).filter(|(letter, _)| *letter == TAKE) {
+            match watch.take(word).answer {
+                Answer::Ok => {
+                    shared_ok |= is_shared(&model.touched());
+                    model.take(word);
+                }
+                Answer::Bad(monitor) => {
+                    shared_bad = is_shared(&model.touched());
+                    not_last = monitor + 1 < program.monitors();
+                }
+                Answer::Refused(_) => (),
+            }
+        }
+        self.cases += 1;
+        self.shared_ok += u64::from(shared_ok);
+        self.shared_bad += u64::from(shared_bad);
+        self.not_last += u64::from(not_last);
+    }
+}
+
+/// Whether a row is in two of the sets.
+fn is_shared(touched: &[BTreeSet<Touched>]) -> bool {
+    let mut all = BTreeSet::new();
+    !touched.iter().flatten().all(|row| all.insert(row))
 }
 
 /// The calls that some bytes are: the letter and the word of each.
@@ -238,8 +287,8 @@ mod tests {
     #[test]
     fn lines_are_counted_by_kind() {
         let met = met([
-            &b"rows 1 letters 1\nlook bad 0\nlook bad 3\ntake ok\nlook bad 1\nlook refused 15\ntake bad 0\ntake refused 16\n"[..],
-            b"rows 1 letters 1\nlook ok\ntake ok\nlook bad 0\n",
+            &b"rows 1 letters 1\nlook bad 0\nlook bad 3\ntake ok touched 1\nlook bad 1\nlook refused 15\ntake bad 0 touched 2\ntake refused 16 touched 0\n"[..],
+            b"rows 1 letters 1\nlook ok\ntake ok touched 1\nlook bad 0\n",
             b"refused 3 0\n",
             b"refused 12 0 1\n",
         ]);
@@ -278,11 +327,15 @@ mod tests {
         assert!(same > 700 && near > 700 && earlier > 100, "{same} {near} {earlier}");
     }
 
-    fn busy(body: &str, calls: &[(u8, u64)]) -> (u64, u64, u64) {
-        let text = format!("input a; input b; input c; p -> {body}; monitor p;").into_bytes();
+    fn case_of(body: &str, monitors: &str, calls: &[(u8, u64)]) -> Case {
+        let text = format!("input a; input b; input c; p -> {body}; q -> a || !a; monitor {monitors};").into_bytes();
         let trace = calls.iter().flat_map(|(letter, word)| [&[*letter][..], &word.to_le_bytes()].concat()).collect();
+        Case { text, trace }
+    }
+
+    fn busy(body: &str, calls: &[(u8, u64)]) -> (u64, u64, u64) {
         let mut busy = Busy::default();
-        busy.count(&Case { text, trace });
+        busy.count(&case_of(body, "p", calls));
         (busy.looks, busy.went_on, busy.takes)
     }
 
@@ -301,6 +354,38 @@ mod tests {
         let mut busy = Busy::default();
         (0..10_000).map(grown).for_each(|case| busy.count(&case));
         assert!(busy.looks > 1000 && busy.went_on > 300 && busy.takes > 400, "{busy:?}");
+    }
+
+    fn touches(body: &str, monitors: &str, words: &[u64]) -> [u64; 4] {
+        let takes: Vec<(u8, u64)> = words.iter().map(|&word| (TAKE, word)).collect();
+        let mut touches = Touches::default();
+        touches.count(&case_of(body, monitors, &takes));
+        [touches.cases, touches.shared_ok, touches.shared_bad, touches.not_last]
+    }
+
+    /// Behind the words 1, 4, 5 both the letter a, with no round of b, and the letter c of the thread lead to the rows of c and !c.
+    #[test]
+    fn takes_with_rows_that_are_easily_missed_are_counted() {
+        let body = "(a, b*) @ (c*, !c), !b";
+        assert_eq!(touches(body, "p", &[1, 4, 5]), [1, 0, 0, 0]);
+        assert_eq!(touches(body, "p", &[1, 4, 5, 6, 2]), [1, 1, 0, 0]);
+        assert_eq!(touches(body, "p", &[1, 4, 5, 4, 6]), [1, 0, 1, 0]);
+        assert_eq!(touches(body, "p", &[1, 4, 5, 6, 6, 4]), [1, 1, 1, 0]);
+        assert_eq!(touches(body, "p", &[1, 4, 5, 8]), [1, 0, 0, 0]);
+        assert_eq!(touches("a @ (b, c)", "p", &[1, 3, 7]), [1, 0, 0, 0]);
+        assert_eq!(touches(body, "p, q", &[0]), [1, 0, 0, 1]);
+        assert_eq!(touches(body, "q, p", &[0]), [1, 0, 0, 0]);
+        assert_eq!(touches(body, "p, q", &[1, 4, 5, 6]), [1, 1, 0, 0]);
+        assert_eq!(touches("a || a", "p, q", &[0]), [0; 4]);
+    }
+
+    /// Each in at least one accepted case of twenty.
+    #[test]
+    fn rows_are_often_easily_missed() {
+        let mut touches = Touches::default();
+        (0..10_000).map(grown).for_each(|case| touches.count(&case));
+        let Touches { cases, shared_ok, shared_bad, not_last } = touches;
+        assert!([shared_ok, shared_bad, not_last].iter().all(|n| 20 * n > cases), "{touches:?}");
     }
 
     #[test]

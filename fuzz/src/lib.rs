@@ -1,6 +1,6 @@
 //! Random cases for the line watch, what they must show, and how a case that fails is made small and saved. The program beside it (`main.rs`) has the C
 //! entries; here they are parameters, so that the tests can put wrong ones in their place. Another (`bin/calls.rs`) puts looks and takes to a program.
-//! A model (`model.rs`) tells where a bad word is bad for a thread that is started while it runs, and for nothing else.
+//! A model (`model.rs`) tells where a bad word is bad for a thread that is started while it runs, and for nothing else, and which rows a tick touches.
 
 pub mod calls;
 pub mod compare;
@@ -11,6 +11,7 @@ pub mod model;
 pub mod opened;
 pub mod past;
 pub mod random;
+pub mod rows;
 pub mod save;
 pub mod shrink;
 pub mod threads;

@@ -1,10 +1,12 @@
 //! A model of the watch, for texts that `second` accepts: it goes over the parts of each monitor, from letter to letter, with what has to come behind each
 //! letter that was met. It has nothing of `second`, and says more of a bad word: whether every letter that is required is met, so that the word is bad
-//! only because two starts of one thread both require one.
+//! only because two starts of one thread both require one. It also tells the rows that a tick touches (rows.rs).
 //!
 //! An accepted text has no forks, so that a word leads on from a letter in one way at most; the model takes the first that it finds.
 
 use crate::opened::{Letter, Opened, Part};
+use crate::rows::{Rows, Touched};
+use std::collections::BTreeSet;
 use std::rc::Rc;
 
 /// What has to come behind a letter.
@@ -56,8 +58,11 @@ pub enum Said {
 /// A watch at work. It knows no refusals: they are left to who hands the words over.
 pub struct Model<'o> {
     opened: &'o Opened,
+    rows: Rows<'o>,
     stores: Vec<u64>,
     before: u64,
+    /// The letters met at the last tick, in the order of their numbers; none before tick 0.
+    letters: Vec<usize>,
     /// For each monitor what has to come, for itself and for each start.
     rests: Vec<Vec<Rc<Rest>>>,
     handed_over: u64,
@@ -66,12 +71,20 @@ pub struct Model<'o> {
 impl<'o> Model<'o> {
     pub fn new(opened: &'o Opened) -> Self {
         let rests = opened.monitors.iter().map(|&monitor| vec![Rc::new(Rest::Again(monitor))]).collect();
-        Model { opened, stores: opened.stores.clone(), before: 0, rests, handed_over: 0 }
+        Model { opened, rows: Rows::new(opened), stores: opened.stores.clone(), before: 0, letters: Vec::new(), rests, handed_over: 0 }
     }
 
     /// How many starts so far had their first letter right behind the last letter of another start of the same thread.
     pub fn handed_over(&self) -> u64 {
         self.handed_over
+    }
+
+    /// The rows that the next tick touches: those behind each letter met at the last one, or each monitor's at tick 0.
+    pub fn touched(&self) -> Vec<BTreeSet<Touched>> {
+        if self.letters.is_empty() {
+            return self.opened.monitors.iter().map(|&monitor| self.rows.at_first(monitor)).collect();
+        }
+        self.letters.iter().map(|&letter| self.rows.behind(letter)).collect()
     }
 
     /// What a take of the word would come to.
@@ -94,15 +107,15 @@ impl<'o> Model<'o> {
             self.handed_over += handed_over(before, after);
             *before = after.iter().map(|met| met.rest.clone()).collect();
         }
-        self.write(word, met);
+        self.letters = met.iter().flatten().map(|met| met.letter).collect();
+        self.letters.sort_unstable();
+        self.write(word);
         self.before = word;
     }
 
     /// Carries out the writes of the letters met, in the order of their numbers.
-    fn write(&mut self, word: u64, met: &[Vec<Met>]) {
-        let mut letters: Vec<usize> = met.iter().flatten().map(|met| met.letter).collect();
-        letters.sort_unstable();
-        for letter in letters {
+    fn write(&mut self, word: u64) {
+        for &letter in &self.letters {
             for (store, value) in &self.opened.letters[letter].writes {
                 self.stores[*store] = value.of(word);
             }
@@ -243,7 +256,7 @@ mod tests {
         assert_eq!((model.look(3), model.look(1), model.look(2)), (Said::Busy(1), Said::Bad(1), Said::Bad(1)));
     }
 
-    /// What `second` says of the words of grown cases, the model says too.
+    /// What `second` says of the words of grown cases, the model says too, and how many rows they touch.
     #[test]
     fn the_model_answers_as_second_does() {
         let mut compared = 0;
@@ -254,7 +267,9 @@ mod tests {
             let opened = open(std::str::from_utf8(&case.text).expect("it is accepted"));
             let (mut watch, mut model) = (Watch::new(&program), Model::new(&opened));
             for word in words(&case.trace) {
-                let answer = match watch.take(word) {
+                let touched: BTreeSet<Touched> = model.touched().into_iter().flatten().collect();
+                let taken = watch.take(word);
+                let answer = match taken.answer {
                     Answer::Refused(_) => break,
                     Answer::Ok => OK,
                     Answer::Bad(monitor) => Said::Bad(monitor),
@@ -265,6 +280,7 @@ mod tests {
                 };
                 assert_eq!(said, answer, "at tick {} of {}", watch.ticks(), String::from_utf8_lossy(&case.text));
                 assert_eq!(model.stores, watch.stores());
+                assert_eq!(taken.touched as usize, touched.len(), "at tick {} of {}", watch.ticks(), String::from_utf8_lossy(&case.text));
                 compared += 1;
             }
         }

@@ -46,6 +46,6 @@ mod tests {
     fn all_three_files_of_calls_are_written() {
         let calls = b"L\0\0\0\0\0\0\0\0T\x01\0\0\0\0\0\0\0";
         let files = saved(save_calls, calls, ["rules.txt", "calls.bin", "calls.txt"]);
-        assert_eq!(files, [TEXT, calls, b"rows 1 letters 1\nlook bad 0\ntake ok\n"]);
+        assert_eq!(files, [TEXT, calls, b"rows 1 letters 1\nlook bad 0\ntake ok touched 1\n"]);
     }
 }

@@ -1,5 +1,5 @@
 //! Texts whose threads are often started while they run, or just not: threads of one letter, of several and of as many as it takes, threads inside threads, `@`
-//! below a star, left operands that end in a star, productions with an `@` that stand twice, and several monitors. And what a case shows of its threads:
+//! below a star, left operands that end in stars, productions with an `@` that stand twice, and several monitors. And what a case shows of its threads:
 //! how often one is handed over, and whether a bad tick is one for a busy thread alone.
 
 use crate::compare::words;
@@ -18,6 +18,10 @@ const DEEPEST: usize = 3;
 
 /// What may stand beside a letter's wire. A store test or a write makes it count which branches fit.
 const BESIDE: &[&str] = &[" & F == past(F)", " & F[0]", " & s == 0", " & F == s", " { s <- F; }", " { s <- 0; }", " & !F[1] { s <- F; }"];
+
+/// Ends of left operands, of any number of ticks with wire b: a star alone, stars in a row, two of which one is taken, and one inside another.
+const ROUNDS: &[&str] =
+    &["b*", "b*", "b*", "(b & F[0])*, (b & !F[0])*", "((b & F[0])* || (b & !F[0])*)", "((b & F[0])* || (b & !F[0])*)", "((b & F[0])*, b & !F[0])*"];
 
 /// A text that is accepted.
 pub fn text(random: &mut Random) -> String {
@@ -86,10 +90,11 @@ fn thread(random: &mut Random, depth: usize) -> String {
 /// A part that begins with wire a and starts a thread.
 fn starting(random: &mut Random) -> String {
     let thread = thread_of_any_depth(random);
+    let rounds = random.pick(ROUNDS);
     match random.below(11) {
         0..=2 => format!("a @ ({thread})"),
-        3 | 4 => format!("(a, b*) @ ({thread}), !b"),
-        5 => format!("(a, b*) @ ({thread}), !b @ ({})", thread_of_any_depth(random)),
+        3 | 4 => format!("(a, {rounds}) @ ({thread}), !b"),
+        5 => format!("(a, {rounds}) @ ({thread}), !b @ ({})", thread_of_any_depth(random)),
         6 => format!("((a & !b)*, a & b) @ ({thread})"),
         7 => format!("(a @ ({thread})) @ ({})", thread_of_any_depth(random)),
         8 => format!("a @ ({thread}), {}", letter(random)),
@@ -103,9 +108,11 @@ fn thread_of_any_depth(random: &mut Random) -> String {
     thread(random, depth)
 }
 
-/// A monitor's expression, of the parts that start threads.
+/// A monitor's expression, of the parts that start threads. In the last ones it is open at many ticks whether a thread that runs is started.
 fn line_of(random: &mut Random) -> String {
-    match random.below(12) {
+    let (x, y) = letters_apart(random);
+    let rounds = random.pick(ROUNDS);
+    match random.below(16) {
         0..=2 => String::from("t || !a"),
         3 | 4 => String::from("(t)*, !a"),
         5 | 6 => String::from("t, t || !a"),
@@ -113,7 +120,9 @@ fn line_of(random: &mut Random) -> String {
         8 => String::from("(t, u)*, !a"),
         9 => format!("t || !a @ ({})", thread_of_any_depth(random)),
         10 => format!("t, {} || !a", letter(random)),
-        _ => String::from("t, t"),
+        11 => String::from("t, t"),
+        12 | 13 => format!("(a & !b, {rounds}) @ ({}) || !a & !b", thread_of_any_depth(random)),
+        _ => format!("(a & !b, {rounds}) @ (({x})*, {y}) || !a & !b"),
     }
 }
 
@@ -193,7 +202,7 @@ mod tests {
         }
     }
 
-    /// All forms are there: threads inside threads, `@` below a star, a left operand that ends in a star, a production that stands twice, several monitors.
+    /// All forms are there: threads inside threads, `@` below a star, a left operand that ends in stars, a production that stands twice, several monitors.
     #[test]
     fn texts_have_all_forms() {
         let texts: Vec<String> = (0..1000).map(|seed| text(&mut Random::new(seed))).collect();
@@ -201,6 +210,9 @@ mod tests {
         let lines = ["(a, b*) @ (", "(t)*, !a", "t, t || !a", "monitor p, q;", "monitor p, p;", "monitor q, t, p;"];
         for form in inside.iter().chain(&lines) {
             assert!(texts.iter().any(|text| text.contains(*form)), "{form}");
+        }
+        for form in ROUNDS.iter().flat_map(|rounds| ["a", "a & !b"].map(|first| format!("({first}, {rounds}) @ ("))) {
+            assert!(texts.iter().any(|text| text.contains(&form)), "{form}");
         }
     }
 

@@ -1,12 +1,12 @@
 //! Looks and takes put to a watch in turn, and the lines that answer them.
 //!
 //! A call has nine bytes: `L` for a look or `T` for a take, and its word,
-//! lowest byte first.
+//! lowest byte first. The line of a take ends in the number of rows it touched.
 
 use std::fmt;
 
 use crate::lines::lines_of;
-use crate::watch::{Answer, Watch};
+use crate::watch::{Answer, Taken, Watch};
 
 /// How many bytes a call has.
 const LENGTH: usize = 9;
@@ -26,7 +26,10 @@ pub fn answer_calls(text: &[u8], calls: &[u8]) -> Option<Vec<u8>> {
         for call in calls {
             match call {
                 Call::Look(word) => lines.put(format_args!("look {}", Said(watch.look(word)))),
-                Call::Take(word) => lines.put(format_args!("take {}", Said(watch.take(word)))),
+                Call::Take(word) => {
+                    let Taken { answer, touched } = watch.take(word);
+                    lines.put(format_args!("take {} touched {touched}", Said(answer)));
+                }
             }
         }
     }))

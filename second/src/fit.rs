@@ -29,6 +29,7 @@
 
 use crate::graph::{Graph, LetterNo, Next, WHOLE};
 use crate::letter::{Letter, Moment};
+use crate::rows::Touched;
 use crate::set::Set;
 
 /// A branch between two ticks.
@@ -85,6 +86,12 @@ pub struct Monitor {
     letters: Vec<Letter>,
     ways: Vec<Vec<Way>>,
     first: Vec<Vec<LetterNo>>,
+    /// The rows touched at tick 0.
+    begin: Touched,
+    /// For each letter, the rows touched at the tick after it.
+    after: Vec<Touched>,
+    /// For each letter, how many these are.
+    count_after: Vec<u32>,
 }
 
 impl Monitor {
@@ -102,11 +109,36 @@ impl Monitor {
                 .iter()
                 .map(|first| first.iter().collect())
                 .collect(),
+            begin: graph.begin,
+            count_after: graph.after.iter().map(Touched::count).collect(),
+            after: graph.after,
         }
     }
 
     pub fn letter(&self, number: LetterNo) -> &Letter {
         &self.letters[usize::from(number)]
+    }
+
+    /// How many rows are touched at a tick before which these are the branches:
+    /// the rows asked by any of them, and the rows left by any of them. `room`
+    /// is room to work in.
+    pub fn touched(&self, branches: &[Branch], room: &mut Touched) -> u32 {
+        // A branch that has a letter starts nothing.
+        if let [Branch { letters, .. }] = branches {
+            if let Some(letter) = letters.only() {
+                return self.count_after[usize::from(letter)];
+            }
+        }
+        room.clear();
+        for branch in branches {
+            if branch.starts.contains(WHOLE) {
+                room.insert_all(&self.begin);
+            }
+            for letter in branch.letters.iter() {
+                room.insert_all(&self.after[usize::from(letter)]);
+            }
+        }
+        room.count()
     }
 
     /// Finds every branch that `from` becomes over the word, adding those not

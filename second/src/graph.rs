@@ -5,9 +5,14 @@
 //! letter may leave left operands of `@` on the way, and so each step to a
 //! next letter carries the set of threads it starts. For each thread the
 //! letters are kept after which it goes on.
+//!
+//! The same way leads to the rows that are touched. What follows a letter does
+//! not look at words, so the rows that can be left with it and those that can
+//! be asked then are the same at every tick.
 
 use crate::expr::{Expr, ExprId, Exprs};
 use crate::letter::Letter;
+use crate::rows::{RowNo, Touched};
 use crate::set::Set;
 
 /// The number of a letter within its monitor, in reading order.
@@ -47,6 +52,13 @@ pub struct Graph {
     /// For each run, the letters after which it goes on: all of its own but
     /// its last ones, after which nothing of it comes (rule 11).
     pub midway: Vec<Set>,
+    /// How many rows its table has so far.
+    rows: RowNo,
+    /// The rows touched at tick 0.
+    pub begin: Touched,
+    /// For each letter, the rows touched at the tick after it: those left if
+    /// parts ended with it, and those asked if others begin there.
+    pub after: Vec<Touched>,
 }
 
 /// A last letter of a part, and the threads that start when the part is left
@@ -63,6 +75,8 @@ struct Part {
     last: Vec<Exit>,
     /// Its letters without those of threads inside it, which are theirs alone.
     own: Set,
+    /// The rows touched as it begins: those asked, and those left at once.
+    begin: Touched,
 }
 
 impl Graph {
@@ -75,17 +89,21 @@ impl Graph {
             ways: Vec::new(),
             first: vec![Set::EMPTY],
             midway: vec![Set::EMPTY],
+            rows: 0,
+            begin: Touched::default(),
+            after: Vec::new(),
         };
         let whole = graph.part(exprs, monitor);
         graph.first[usize::from(WHOLE)] = whole.first;
         // The monitor is followed by itself for ever, so no letter is its last.
         graph.midway[usize::from(WHOLE)] = whole.own;
-        graph.connect(&whole.last, whole.first);
+        graph.connect(&whole.last, &whole);
+        graph.begin = whole.begin;
         graph
     }
 
     fn part(&mut self, exprs: &Exprs, id: ExprId) -> Part {
-        match exprs.expr(id) {
+        let part = match exprs.expr(id) {
             Expr::Letter(number) => self.letter(exprs.letter(number)),
             Expr::Star(body) => {
                 let body = self.part(exprs, body);
@@ -103,13 +121,30 @@ impl Graph {
                 let (left, right) = (self.part(exprs, left), self.part(exprs, right));
                 self.pipeline(left, right)
             }
+        };
+        self.with_row(part)
+    }
+
+    /// Gives a part its own row, which is asked as the part begins and left as
+    /// it ends: with one of its last letters, or at once if it takes no ticks.
+    fn with_row(&mut self, mut part: Part) -> Part {
+        let row = self.rows;
+        self.rows += 1;
+        part.begin.ask(row);
+        if part.nullable {
+            part.begin.leave(row);
         }
+        for exit in &part.last {
+            self.after[usize::from(exit.letter)].leave(row);
+        }
+        part
     }
 
     fn letter(&mut self, letter: &Letter) -> Part {
         let number = self.letters.len() as LetterNo;
         self.letters.push(letter.clone());
         self.ways.push(Vec::new());
+        self.after.push(Touched::default());
         let exit = Exit {
             letter: number,
             starts: Set::EMPTY,
@@ -119,12 +154,13 @@ impl Graph {
             first: Set::of(number),
             last: vec![exit],
             own: Set::of(number),
+            begin: Touched::default(),
         }
     }
 
     /// `e*`: after e comes e again, or what follows the star.
     fn star(&mut self, body: Part) -> Part {
-        self.connect(&body.last, body.first);
+        self.connect(&body.last, &body);
         Part {
             nullable: true,
             ..body
@@ -133,9 +169,10 @@ impl Graph {
 
     /// `e , f`: after e comes f.
     fn sequence(&mut self, mut left: Part, right: Part) -> Part {
-        self.connect(&left.last, right.first);
+        self.connect(&left.last, &right);
         if left.nullable {
             left.first.insert_all(&right.first);
+            left.begin.insert_all(&right.begin);
         }
         let mut last = right.last;
         if right.nullable {
@@ -147,6 +184,7 @@ impl Graph {
             first: left.first,
             last,
             own: left.own,
+            begin: left.begin,
         }
     }
 
@@ -167,18 +205,20 @@ impl Graph {
         self.midway.push(midway);
         for exit in &mut left.last {
             exit.starts.insert(thread);
+            self.after[usize::from(exit.letter)].insert_all(&right.begin);
         }
         left
     }
 
-    /// Lets each of the letters `next` come after each of the exits.
-    fn connect(&mut self, exits: &[Exit], next: Set) {
+    /// Lets the part `next` begin after each of the exits.
+    fn connect(&mut self, exits: &[Exit], next: &Part) {
         for exit in exits {
             let way = Way {
                 starts: exit.starts,
-                next: Next::OneOf(next),
+                next: Next::OneOf(next.first),
             };
             self.ways[usize::from(exit.letter)].push(way);
+            self.after[usize::from(exit.letter)].insert_all(&next.begin);
         }
     }
 }
@@ -188,6 +228,7 @@ fn choice(mut left: Part, mut right: Part) -> Part {
     left.first.insert_all(&right.first);
     left.last.append(&mut right.last);
     left.own.insert_all(&right.own);
+    left.begin.insert_all(&right.begin);
     Part {
         nullable: left.nullable || right.nullable,
         ..left
@@ -269,6 +310,35 @@ mod tests {
         let nested = graph("a @ (b @ (c, b), a) || (b @ (a, b)) @ c");
         let midway = [set(&[0, 5]), set(&[2]), set(&[1]), set(&[6]), set(&[])];
         assert_eq!(nested.midway, midway);
+    }
+
+    /// Rows are numbered as parts end: an operator comes behind its operands.
+    fn touched(asked: &[RowNo], left: &[RowNo]) -> Touched {
+        let mut touched = Touched::default();
+        asked.iter().for_each(|&row| touched.ask(row));
+        left.iter().for_each(|&row| touched.leave(row));
+        touched
+    }
+
+    #[test]
+    fn a_star_is_asked_once_and_its_body_each_round() {
+        // a 0, `*` 1, b 2, `,` 3
+        let graph = graph("a*, b & !a");
+        assert_eq!(graph.begin, touched(&[0, 1, 2, 3], &[1]));
+        assert_eq!(graph.after[0], touched(&[0, 2], &[0, 1]));
+        assert_eq!(graph.after[1], touched(&[0, 1, 2, 3], &[1, 2, 3]));
+    }
+
+    #[test]
+    fn a_pipeline_is_left_where_its_thread_is_asked() {
+        // a 0, b 1, c 2, `,` 3, `@` 4, !a 5, `||` 6
+        let graph = graph("a @ (b, c) || !a");
+        let begin = [0, 4, 5, 6];
+        assert_eq!(graph.begin, touched(&begin, &[]));
+        assert_eq!(graph.after[0], touched(&[0, 1, 3, 4, 5, 6], &[0, 4, 6]));
+        assert_eq!(graph.after[1], touched(&[2], &[1]));
+        assert_eq!(graph.after[2], touched(&[], &[2, 3]));
+        assert_eq!(graph.after[3], touched(&begin, &[5, 6]));
     }
 
     #[test]

@@ -6,8 +6,10 @@
 //! 1. `token` cuts the text into tokens,
 //! 2. `parse` reads the grammar and fills the tables of `letter` and `expr`,
 //! 3. `graph` opens a monitor into letters and "what can come next" relations,
+//!    and with `rows` finds the rows touched after each letter,
 //! 4. `shape` judges the limits and the shape rules (numbers 8 to 12),
-//! 5. `fit` moves branches of a monitor over one word,
+//! 5. `fit` moves branches of a monitor over one word, and counts the rows they
+//!    touch,
 //! 6. `watch` keeps the branches and the stores from tick to tick,
 //! 7. `record` reads and writes wire records, `sheet` prints what comes of
 //!    them, and `calls` what comes of single calls; `lines` is what both print
@@ -20,11 +22,14 @@
 //! let text = b"input a; p -> a; monitor p;";
 //! let program = second::open(text).unwrap();
 //! let mut watch = second::Watch::new(&program);
-//! assert_eq!(watch.take(1), second::Answer::Ok);
+//! assert_eq!(watch.take(1).answer, second::Answer::Ok);
 //! // A look tells what a take would answer, and changes nothing.
 //! assert_eq!(watch.look(0), second::Answer::Bad(0));
-//! assert_eq!(watch.take(1), second::Answer::Ok);
-//! assert_eq!(watch.take(0), second::Answer::Bad(0));
+//! // A take also tells how many rows it touched: the row of a was left here,
+//! // and asked again.
+//! let taken = watch.take(1);
+//! assert_eq!((taken.answer, taken.touched), (second::Answer::Ok, 2));
+//! assert_eq!(watch.take(0).answer, second::Answer::Bad(0));
 //! ```
 
 pub mod batch;
@@ -40,6 +45,7 @@ mod graph;
 mod letter;
 mod lines;
 mod parse;
+mod rows;
 mod set;
 mod shape;
 mod sheet;
@@ -50,7 +56,7 @@ pub use calls::answer_calls;
 pub use refusal::{Place, Reason, Refusal};
 pub use shape::{open, Program};
 pub use sheet::sheet;
-pub use watch::{Answer, Watch};
+pub use watch::{Answer, Taken, Watch};
 
 /// The numbers the specification sets as limits.
 pub mod limit {

@@ -27,6 +27,10 @@ impl Set {
         }
     }
 
+    pub fn contains(&self, number: u8) -> bool {
+        self.0[usize::from(number / 64)] >> (number % 64) & 1 == 1
+    }
+
     pub fn is_empty(&self) -> bool {
         self.0 == [0; 4]
     }
@@ -38,6 +42,12 @@ impl Set {
             shared |= mine & theirs;
         }
         shared != 0
+    }
+
+    /// Its number, if it has just one.
+    pub fn only(&self) -> Option<u8> {
+        let mut rest = *self;
+        rest.pop().filter(|_| rest.is_empty())
     }
 
     /// Takes the lowest number out.
@@ -82,6 +92,25 @@ mod tests {
         set.remove(65);
         set.remove(66);
         assert_eq!(set.iter().collect::<Vec<_>>(), [1, 64]);
+    }
+
+    #[test]
+    fn a_number_is_found() {
+        let mut set = Set::of(63);
+        set.insert(255);
+        let found: Vec<u8> = (0..=255).filter(|&number| set.contains(number)).collect();
+        assert_eq!(found, [63, 255]);
+    }
+
+    #[test]
+    fn one_number_alone_is_told() {
+        for number in [0, 63, 64, 255] {
+            let mut set = Set::of(number);
+            assert_eq!(set.only(), Some(number));
+            set.insert(128);
+            assert_eq!(set.only(), None);
+        }
+        assert_eq!(Set::EMPTY.only(), None);
     }
 
     #[test]

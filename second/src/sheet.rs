@@ -23,7 +23,7 @@ fn run(program: &Program, trace: &[u8], lines: &mut Lines) {
             // The record reader names a byte, the sheet the tick.
             Err(refusal) => return lines.put(Refusal::at_tick(refusal.reason, tick)),
         }
-        match watch.take(word) {
+        match watch.take(word).answer {
             Answer::Ok => lines.put(format_args!("{tick} {word:016x} ok")),
             Answer::Bad(monitor) => {
                 return lines.put(format_args!("{tick} {word:016x} bad {monitor}"))

@@ -10,6 +10,7 @@ use crate::fit::{Branch, Crossing};
 use crate::letter::Moment;
 use crate::limit;
 use crate::refusal::{Reason, Refusal};
+use crate::rows::Touched;
 use crate::set::Set;
 use crate::shape::Program;
 
@@ -20,6 +21,15 @@ pub enum Answer {
     /// The lowest monitor that no longer fits.
     Bad(usize),
     Refused(Refusal),
+}
+
+/// What a take gives: its answer, and how many rows it touched.
+#[derive(Clone, Copy, Debug, PartialEq, Eq)]
+pub struct Taken {
+    pub answer: Answer,
+    /// The rows asked and the rows left, each row once as either; 0 if the
+    /// take was refused.
+    pub touched: u32,
 }
 
 /// A running watch over an opened text.
@@ -44,6 +54,8 @@ struct Room {
     /// For each monitor, the branches after the word looked at.
     next: Vec<Vec<Branch>>,
     crossings: Vec<Crossing>,
+    /// Of one monitor at a time.
+    touched: Touched,
 }
 
 impl<'p> Watch<'p> {
@@ -59,6 +71,7 @@ impl<'p> Watch<'p> {
             room: RefCell::new(Room {
                 next: vec![Vec::new(); monitors],
                 crossings: Vec::new(),
+                touched: Touched::default(),
             }),
         }
     }
@@ -97,14 +110,28 @@ impl<'p> Watch<'p> {
 
     /// Takes the word. If it is bad the watch stops and is otherwise as it
     /// was; a refusal changes nothing.
-    pub fn take(&mut self, word: u64) -> Answer {
+    pub fn take(&mut self, word: u64) -> Taken {
         let answer = self.look(word);
+        let touched = match answer {
+            Answer::Ok | Answer::Bad(_) => self.touched(),
+            Answer::Refused(_) => 0,
+        };
         match answer {
             Answer::Ok => self.move_over(word),
             Answer::Bad(_) => self.stopped = true,
             Answer::Refused(_) => (),
         }
-        answer
+        Taken { answer, touched }
+    }
+
+    /// How many rows a take touches in all monitors now, whatever its word and
+    /// whichever of them fit it.
+    fn touched(&mut self) -> u32 {
+        let room = &mut self.room.get_mut().touched;
+        let monitors = self.program.monitors.iter().zip(&self.branches);
+        monitors
+            .map(|(monitor, branches)| monitor.touched(branches, room))
+            .sum()
     }
 
     /// Moves the watch over the word it has just found to be ok.
@@ -135,7 +162,9 @@ impl<'p> Watch<'p> {
     /// Finds all branches after the word and leaves them in the room; gives
     /// the lowest monitor left without a branch.
     fn cross(&self, word: u64) -> Option<usize> {
-        let Room { next, crossings } = &mut *self.room.borrow_mut();
+        let Room {
+            next, crossings, ..
+        } = &mut *self.room.borrow_mut();
         let moment = Moment {
             word,
             before: self.before,

@@ -80,11 +80,11 @@ fn takes_answer_alike_with_and_without_looks_among_them() {
         let mut looked = Watch::new(program);
         for _ in 0..30 {
             let word = chosen(&looks(&looked), numbers);
-            let answer = plain.take(word);
-            assert_eq!(looked.take(word), answer);
+            let taken = plain.take(word);
+            assert_eq!(looked.take(word), taken);
             assert_eq!(shown(&looked), shown(&plain));
-            ok += usize::from(answer == Answer::Ok);
-            bad += usize::from(matches!(answer, Answer::Bad(_)));
+            ok += usize::from(taken.answer == Answer::Ok);
+            bad += usize::from(matches!(taken.answer, Answer::Bad(_)));
         }
         assert_eq!(looks(&looked), looks(&plain));
     });
@@ -113,7 +113,7 @@ fn a_look_and_then_a_take_agree() {
         for _ in 0..30 {
             for word in 0..=WORDS {
                 let answer = watch.look(word);
-                assert_eq!(watch.clone().take(word), answer);
+                assert_eq!(watch.clone().take(word).answer, answer);
             }
             watch.take(chosen(&looks(&watch), numbers));
         }
@@ -127,7 +127,7 @@ fn a_look_writes_no_store() {
     let mut watch = Watch::new(&program);
     assert_eq!(watch.look(3), Answer::Ok);
     assert_eq!(watch.stores(), [7]);
-    assert_eq!(watch.take(5), Answer::Ok);
+    assert_eq!(watch.take(5).answer, Answer::Ok);
     assert_eq!(watch.look(9), Answer::Ok);
     assert_eq!(watch.stores(), [5]);
 }
@@ -138,11 +138,11 @@ fn a_look_is_no_word_before() {
     let mut watch = Watch::new(&program);
     assert_eq!(watch.look(4 << 1 | 1), Answer::Ok);
     assert_eq!(watch.look(4 << 1), Answer::Bad(0));
-    assert_eq!(watch.take(5 << 1 | 1), Answer::Ok);
+    assert_eq!(watch.take(5 << 1 | 1).answer, Answer::Ok);
     assert_eq!(watch.look(6 << 1 | 1), Answer::Ok);
     assert_eq!(watch.word_before(), 5 << 1 | 1);
     assert_eq!(watch.look(6 << 1), Answer::Bad(0));
-    assert_eq!(watch.take(5 << 1), Answer::Ok);
+    assert_eq!(watch.take(5 << 1).answer, Answer::Ok);
 }
 
 #[test]
@@ -150,12 +150,12 @@ fn a_look_starts_no_thread() {
     let program = open("input a; input b; p -> a @ b || !a; monitor p;");
     let mut watch = Watch::new(&program);
     assert_eq!(watch.look(1), Answer::Ok);
-    assert_eq!(watch.take(0), Answer::Ok);
-    assert_eq!(watch.take(0), Answer::Ok);
-    assert_eq!(watch.take(1), Answer::Ok);
+    assert_eq!(watch.take(0).answer, Answer::Ok);
+    assert_eq!(watch.take(0).answer, Answer::Ok);
+    assert_eq!(watch.take(1).answer, Answer::Ok);
     // Nor does it end one.
     assert_eq!(watch.look(2), Answer::Ok);
-    assert_eq!(watch.take(0), Answer::Bad(0));
+    assert_eq!(watch.take(0).answer, Answer::Bad(0));
 }
 
 #[test]
@@ -164,11 +164,11 @@ fn a_bad_look_stops_nothing() {
     let mut watch = Watch::new(&program);
     assert_eq!(watch.look(0), Answer::Bad(0));
     assert_eq!(watch.look(0), Answer::Bad(0));
-    assert_eq!(watch.take(1), Answer::Ok);
+    assert_eq!(watch.take(1).answer, Answer::Ok);
     assert_eq!(watch.look(0), Answer::Bad(0));
-    assert_eq!(watch.take(1), Answer::Ok);
+    assert_eq!(watch.take(1).answer, Answer::Ok);
     assert_eq!(watch.ticks(), 2);
-    assert_eq!(watch.take(0), Answer::Bad(0));
+    assert_eq!(watch.take(0).answer, Answer::Bad(0));
 }
 
 #[test]
@@ -191,8 +191,8 @@ fn a_stray_look_is_refused_and_changes_nothing() {
         let stray = format!("refused 15 {tick}");
         assert_eq!(refused(watch.look(3)), stray);
         assert_eq!(refused(watch.look(1 << 63)), stray);
-        assert_eq!(refused(watch.take(3)), stray);
-        assert_eq!(watch.take(1), Answer::Ok);
+        assert_eq!(refused(watch.take(3).answer), stray);
+        assert_eq!(watch.take(1).answer, Answer::Ok);
     }
 }
 
@@ -200,12 +200,12 @@ fn a_stray_look_is_refused_and_changes_nothing() {
 fn a_look_at_a_stopped_watch_is_refused() {
     let program = open(ONE);
     let mut watch = Watch::new(&program);
-    assert_eq!(watch.take(1), Answer::Ok);
-    assert_eq!(watch.take(0), Answer::Bad(0));
+    assert_eq!(watch.take(1).answer, Answer::Ok);
+    assert_eq!(watch.take(0).answer, Answer::Bad(0));
     // A word that would be ok, a bad and a stray one.
     for word in [1, 0, 2] {
         assert_eq!(refused(watch.look(word)), "refused 16 1");
-        assert_eq!(refused(watch.take(word)), "refused 16 1");
+        assert_eq!(refused(watch.take(word).answer), "refused 16 1");
     }
 }
 
@@ -216,11 +216,11 @@ fn a_look_at_a_full_watch_is_refused_and_looks_do_not_fill_it() {
     for tick in 0..1_000_000 {
         assert_eq!(watch.look(1), Answer::Ok, "tick {tick}");
         assert_eq!(watch.look(0), Answer::Bad(0), "tick {tick}");
-        assert_eq!(watch.take(1), Answer::Ok, "tick {tick}");
+        assert_eq!(watch.take(1).answer, Answer::Ok, "tick {tick}");
     }
     for word in [1, 0, 2] {
         assert_eq!(refused(watch.look(word)), "refused 17 1000000");
-        assert_eq!(refused(watch.take(word)), "refused 17 1000000");
+        assert_eq!(refused(watch.take(word).answer), "refused 17 1000000");
     }
 }
 
@@ -232,7 +232,7 @@ fn looks_have_no_limit() {
         assert_eq!(watch.look(1), Answer::Ok);
     }
     assert_eq!(watch.ticks(), 0);
-    assert_eq!(watch.take(1), Answer::Ok);
+    assert_eq!(watch.take(1).answer, Answer::Ok);
 }
 
 // Calls and their answers as bytes.
@@ -270,11 +270,11 @@ fn each_call_has_a_line() {
                     look ok\n\
                     look bad 0\n\
                     look refused 15\n\
-                    take refused 15\n\
-                    take ok\n\
-                    take bad 0\n\
+                    take refused 15 touched 0\n\
+                    take ok touched 7\n\
+                    take bad 0 touched 12\n\
                     look refused 16\n\
-                    take refused 16\n";
+                    take refused 16 touched 0\n";
     assert_eq!(printed(text, &calls), expected);
 }
 
@@ -282,7 +282,7 @@ fn each_call_has_a_line() {
 fn monitors_are_printed_with_their_number() {
     let many = "p, ".repeat(31);
     let text = format!("input a; p -> a || !a; q -> a; monitor {many}q;");
-    let expected = "rows 94 letters 63\nlook bad 31\ntake bad 31\n";
+    let expected = "rows 94 letters 63\nlook bad 31\ntake bad 31 touched 94\n";
     assert_eq!(printed(&text, &[(b'L', 0), (b'T', 0)]), expected);
 }
 
@@ -293,7 +293,7 @@ fn the_lowest_byte_of_a_word_comes_first() {
         text,
         b"L\x01\x02\x03\x04\x05\x06\x07\x08T\x08\x07\x06\x05\x04\x03\x02\x01",
     );
-    let expected = b"rows 1 letters 1\nlook ok\ntake bad 0\n";
+    let expected = b"rows 1 letters 1\nlook ok\ntake bad 0 touched 1\n";
     assert_eq!(answer.unwrap(), expected);
 }
 
@@ -317,7 +317,7 @@ fn a_full_watch_is_printed() {
     let takes = [(b'L', 1), (b'T', 1)].repeat(1_000_000);
     let calls = [takes, vec![(b'L', 1), (b'T', 2)]].concat();
     let printed = printed(ONE, &calls);
-    let end = "look ok\ntake ok\nlook refused 17\ntake refused 17\n";
+    let end = "look ok\ntake ok touched 2\nlook refused 17\ntake refused 17 touched 0\n";
     assert!(printed.ends_with(end));
     assert_eq!(printed.lines().count(), 1 + calls.len());
 }

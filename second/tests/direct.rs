@@ -2,8 +2,10 @@
 //!
 //! What can come first, last and next is found by listing all runs of letters
 //! an expression allows (each star up to two rounds); whether words fit, by
-//! following every branch with what each of its starts still has to do. Both
-//! take far too long for large texts and share nothing with the library.
+//! following every branch with what each of its starts still has to do; which
+//! rows are touched, by asking of each branch what it can have ended and what
+//! it can begin. All of it takes far too long for large texts and shares
+//! nothing with the library.
 //!
 //! One test draws any texts, another one texts and words with which starts of
 //! a thread often overlap.
@@ -465,6 +467,10 @@ enum Ahead<'e> {
     EndOf(&'e Expr),
     TheMonitorAgain,
     Part(&'e Expr, Rc<Ahead<'e>>),
+    /// This part ends here.
+    Left(&'e Expr, Rc<Ahead<'e>>),
+    /// Another round of a star with this body, or what follows the star.
+    Rounds(&'e Expr, Rc<Ahead<'e>>),
     ThreadBeside(&'e Expr, Rc<Ahead<'e>>),
 }
 
@@ -475,7 +481,10 @@ impl<'e> Ahead<'e> {
         match self {
             Ahead::EndOf(thread) => Some(thread),
             Ahead::TheMonitorAgain => None,
-            Ahead::Part(_, then) | Ahead::ThreadBeside(_, then) => then.thread(),
+            Ahead::Part(_, then)
+            | Ahead::Left(_, then)
+            | Ahead::Rounds(_, then)
+            | Ahead::ThreadBeside(_, then) => then.thread(),
         }
     }
 
@@ -488,8 +497,8 @@ impl<'e> Ahead<'e> {
     fn is_over(&self) -> bool {
         match self {
             Ahead::EndOf(_) => true,
-            Ahead::TheMonitorAgain | Ahead::Part(..) => false,
-            Ahead::ThreadBeside(_, then) => then.is_over(),
+            Ahead::TheMonitorAgain | Ahead::Part(..) | Ahead::Rounds(..) => false,
+            Ahead::Left(_, then) | Ahead::ThreadBeside(_, then) => then.is_over(),
         }
     }
 }
@@ -509,22 +518,80 @@ fn ways<'e>(ahead: &Ahead<'e>, whole: &'e Expr, met: &dyn Fn(usize) -> bool) -> 
         Ahead::ThreadBeside(thread, then) => {
             crossed(&part(thread, Ahead::EndOf(thread)), &ways(then, whole, met))
         }
-        Ahead::Part(expr, then) => match expr {
-            Expr::Letter(number) if met(*number) => vec![vec![(*number, then.clone())]],
-            Expr::Letter(_) => vec![],
-            Sequence(e, f) => part(e, Ahead::Part(f, then.clone())),
-            Choice(e, f) => {
-                let mut either = ways(&Ahead::Part(e, then.clone()), whole, met);
-                either.extend(ways(&Ahead::Part(f, then.clone()), whole, met));
-                either
+        Ahead::Left(_, then) => ways(then, whole, met),
+        Ahead::Rounds(body, then) => {
+            let mut either = ways(then, whole, met);
+            either.extend(part(body, Ahead::Rounds(body, then.clone())));
+            either
+        }
+        Ahead::Part(expr, then) => {
+            let then = Rc::new(Ahead::Left(expr, then.clone()));
+            match expr {
+                Expr::Letter(number) if met(*number) => vec![vec![(*number, then)]],
+                Expr::Letter(_) => vec![],
+                Sequence(e, f) => part(e, Ahead::Part(f, then)),
+                Choice(e, f) => {
+                    let mut either = ways(&Ahead::Part(e, then.clone()), whole, met);
+                    either.extend(ways(&Ahead::Part(f, then), whole, met));
+                    either
+                }
+                Star(e) => ways(&Ahead::Rounds(e, then), whole, met),
+                Pipeline(e, f) => part(e, Ahead::ThreadBeside(f, then)),
             }
-            Star(e) => {
-                let mut either = ways(then, whole, met);
-                either.extend(part(e, Ahead::Part(expr, then.clone())));
-                either
+        }
+    }
+}
+
+/// The rows of a monitor that are asked and those that are left. A row is the
+/// place of its part in memory.
+#[derive(Default)]
+struct Touched {
+    asked: BTreeSet<*const Expr>,
+    left: BTreeSet<*const Expr>,
+}
+
+impl Touched {
+    /// Adds what is asked or left before the next letter of what is ahead, in
+    /// whichever way a branch goes on. Words have no part in it.
+    fn add<'e>(&mut self, ahead: &Ahead<'e>, whole: &'e Expr) {
+        match ahead {
+            Ahead::EndOf(_) => (),
+            Ahead::TheMonitorAgain => self.begin(whole, Ahead::TheMonitorAgain, whole),
+            Ahead::ThreadBeside(thread, then) => {
+                self.begin(thread, Ahead::EndOf(thread), whole);
+                self.add(then, whole);
             }
-            Pipeline(e, f) => part(e, Ahead::ThreadBeside(f, then.clone())),
-        },
+            Ahead::Left(part, then) => {
+                self.left.insert(*part);
+                self.add(then, whole);
+            }
+            Ahead::Rounds(body, then) => {
+                self.add(then, whole);
+                self.begin(body, Ahead::Rounds(body, then.clone()), whole);
+            }
+            Ahead::Part(expr, then) => {
+                self.asked.insert(*expr);
+                let then = Rc::new(Ahead::Left(expr, then.clone()));
+                match expr {
+                    Expr::Letter(_) => (),
+                    Sequence(e, f) => self.begin(e, Ahead::Part(f, then), whole),
+                    Choice(e, f) => {
+                        self.add(&Ahead::Part(e, then.clone()), whole);
+                        self.add(&Ahead::Part(f, then), whole);
+                    }
+                    Star(e) => self.add(&Ahead::Rounds(e, then), whole),
+                    Pipeline(e, f) => self.begin(e, Ahead::ThreadBeside(f, then), whole),
+                }
+            }
+        }
+    }
+
+    fn begin<'e>(&mut self, part: &'e Expr, then: Ahead<'e>, whole: &'e Expr) {
+        self.add(&Ahead::Part(part, Rc::new(then)), whole);
+    }
+
+    fn count(&self) -> usize {
+        self.asked.len() + self.left.len()
     }
 }
 
@@ -735,6 +802,23 @@ impl<'e> State<'e> {
         Ok(next)
     }
 
+    /// How many rows of all monitors the next take touches, and how many it
+    /// would be if rows that several starts reach were counted for each.
+    fn touched(&self, monitors: &'e [Monitor]) -> (usize, usize) {
+        let (mut once, mut for_each) = (0, 0);
+        for (monitor, branches) in monitors.iter().zip(&self.branches) {
+            let mut all = Touched::default();
+            for (_, ahead) in branches.iter().flatten() {
+                let mut alone = Touched::default();
+                alone.add(ahead, &monitor.expr);
+                for_each += alone.count();
+                all.add(ahead, &monitor.expr);
+            }
+            once += all.count();
+        }
+        (once, for_each)
+    }
+
     /// All starts of threads in all branches that had a letter.
     fn starts(&self) -> impl Iterator<Item = (&'e Expr, &Ahead<'e>)> {
         let starts = self.branches.iter().flatten().flatten();
@@ -774,6 +858,8 @@ struct Seen {
     in_one_place: usize,
     /// Those of a thread inside a thread.
     in_inner_threads: usize,
+    /// Takes at which several starts reach the same row.
+    touched_twice: usize,
 }
 
 impl Seen {
@@ -868,8 +954,12 @@ fn run(
         let word = chosen(&outcomes, picks, numbers);
         words.push(word);
         let outcome = outcomes.swap_remove(word);
-        let answer = watch.take(word as u64);
-        assert_eq!(answer, expected(&outcome), "{text} {words:?}");
+        let taken = watch.take(word as u64);
+        assert_eq!(taken.answer, expected(&outcome), "{text} {words:?}");
+        let (touched, for_each) = state.touched(monitors);
+        assert_eq!(taken.touched as usize, touched, "{text} {words:?}");
+        assert!(taken.touched <= 2 * program.rows(), "{text} {words:?}");
+        seen.touched_twice += usize::from(touched < for_each);
         match outcome {
             Ok(next) => {
                 assert_eq!(watch.stores(), next.stores, "{text} {words:?}");
@@ -949,4 +1039,5 @@ fn random_texts_whose_threads_overlap_agree_with_the_direct_meaning() {
     assert!(seen.in_one_place > 500, "{seen:?}");
     assert!(seen.in_inner_threads > 500, "{seen:?}");
     assert!(seen.handed_over > 500, "{seen:?}");
+    assert!(seen.touched_twice > 500, "{seen:?}");
 }

@@ -202,7 +202,7 @@ fn ticks_1_000_000_and_one_more() {
     let program = second::open(b"input a; p -> a; monitor p;").ok().unwrap();
     let mut watch = Watch::new(&program);
     for tick in 0..1_000_000 {
-        assert_eq!(watch.take(1), Answer::Ok, "tick {tick}");
+        assert_eq!(watch.take(1).answer, Answer::Ok, "tick {tick}");
     }
     assert_eq!(watch.ticks(), 1_000_000);
     let full = Answer::Refused(Refusal {
@@ -211,7 +211,7 @@ fn ticks_1_000_000_and_one_more() {
     });
     // Full comes before stray, and even a word that does not fit is not judged.
     for word in [1, 0, 2] {
-        assert_eq!(watch.take(word), full);
+        assert_eq!(watch.take(word).answer, full);
     }
 }
 
@@ -242,12 +242,12 @@ fn a_stopped_watch_says_so_before_all_else() {
             place: Place::Tick(tick),
         })
     };
-    assert_eq!(watch.take(2), refused(Reason::Stray, 0));
-    assert_eq!(watch.take(1), Answer::Ok);
-    assert_eq!(watch.take(3), refused(Reason::Stray, 1));
-    assert_eq!(watch.take(0), Answer::Bad(0));
+    assert_eq!(watch.take(2).answer, refused(Reason::Stray, 0));
+    assert_eq!(watch.take(1).answer, Answer::Ok);
+    assert_eq!(watch.take(3).answer, refused(Reason::Stray, 1));
+    assert_eq!(watch.take(0).answer, Answer::Bad(0));
     for word in [1, 0, 2] {
-        assert_eq!(watch.take(word), refused(Reason::Stopped, 1));
+        assert_eq!(watch.take(word).answer, refused(Reason::Stopped, 1));
     }
 }
 
@@ -256,8 +256,8 @@ fn a_bad_tick_changes_neither_stores_nor_count() {
     let text = b"input a; internal s = 0; p -> a {s <- 1;} || !a {s <- 0;}; q -> !a; monitor p, q;";
     let program = second::open(text).ok().unwrap();
     let mut watch = Watch::new(&program);
-    assert_eq!(watch.take(0), Answer::Ok);
-    assert_eq!(watch.take(1), Answer::Bad(1));
+    assert_eq!(watch.take(0).answer, Answer::Ok);
+    assert_eq!(watch.take(1).answer, Answer::Bad(1));
     assert_eq!((watch.stores(), watch.ticks()), ([0].as_slice(), 1));
 }
 

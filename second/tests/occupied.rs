@@ -298,16 +298,16 @@ fn an_occupied_tick_writes_nothing() {
                 p -> a @ (b {t <- 1;}, b {t <- 2;}) || !a {t <- 3;}; monitor w, p;";
     let program = open(text);
     let mut watch = Watch::new(&program);
-    assert_eq!(watch.take(1), Answer::Ok);
-    assert_eq!(watch.take(3), Answer::Ok);
+    assert_eq!(watch.take(1).answer, Answer::Ok);
+    assert_eq!(watch.take(3).answer, Answer::Ok);
     assert_eq!(watch.stores(), [1, 1]);
-    assert_eq!(watch.take(2), Answer::Bad(1));
+    assert_eq!(watch.take(2).answer, Answer::Bad(1));
     assert_eq!(watch.stores(), [1, 1]);
     assert_eq!((watch.ticks(), watch.word_before()), (2, 3));
     // Letters of both kinds are met if the thread is free.
     let mut watch = Watch::new(&program);
     for (word, stores) in [(1, [1, 0]), (2, [0, 3]), (3, [1, 2]), (2, [0, 3])] {
-        assert_eq!(watch.take(word), Answer::Ok);
+        assert_eq!(watch.take(word).answer, Answer::Ok);
         assert_eq!(watch.stores(), stores);
     }
 }
@@ -316,31 +316,31 @@ fn an_occupied_tick_writes_nothing() {
 fn an_occupied_look_is_bad_and_stops_nothing() {
     let program = open(&abc("a @ (b, c) || !a"));
     let mut watch = Watch::new(&program);
-    assert_eq!(watch.take(1), Answer::Ok);
-    assert_eq!(watch.take(3), Answer::Ok);
+    assert_eq!(watch.take(1).answer, Answer::Ok);
+    assert_eq!(watch.take(3).answer, Answer::Ok);
     for word in 0..8 {
         assert_eq!(watch.look(word), Answer::Bad(0));
     }
     assert_eq!(watch.ticks(), 2);
-    assert_eq!(watch.take(6), Answer::Bad(0));
+    assert_eq!(watch.take(6).answer, Answer::Bad(0));
     assert!(matches!(watch.look(6), Answer::Refused(r) if r.number() == 16));
-    assert!(matches!(watch.take(6), Answer::Refused(r) if r.number() == 16));
+    assert!(matches!(watch.take(6).answer, Answer::Refused(r) if r.number() == 16));
 }
 
 #[test]
 fn a_look_starts_no_thread_and_ends_none() {
     let program = open(&abc("a @ (b, c) || !a"));
     let mut watch = Watch::new(&program);
-    assert_eq!(watch.take(1), Answer::Ok);
+    assert_eq!(watch.take(1).answer, Answer::Ok);
     assert_eq!(watch.look(3), Answer::Ok);
-    assert_eq!(watch.take(2), Answer::Ok);
+    assert_eq!(watch.take(2).answer, Answer::Ok);
     assert_eq!(watch.look(4), Answer::Ok);
     assert_eq!(watch.look(5), Answer::Ok);
-    assert_eq!(watch.take(5), Answer::Ok);
+    assert_eq!(watch.take(5).answer, Answer::Ok);
     assert_eq!(watch.look(2), Answer::Ok);
-    assert_eq!(watch.take(3), Answer::Ok);
+    assert_eq!(watch.take(3).answer, Answer::Ok);
     assert_eq!(watch.look(4), Answer::Bad(0));
-    assert_eq!(watch.take(6), Answer::Bad(0));
+    assert_eq!(watch.take(6).answer, Answer::Bad(0));
 }
 
 #[test]
@@ -348,8 +348,8 @@ fn refused_calls_take_no_time() {
     let program = open(&abc("a @ (b, c) || !a"));
     let mut watch = Watch::new(&program);
     for word in [1, 2, 5, 2, 4] {
-        assert!(matches!(watch.take(8), Answer::Refused(r) if r.number() == 15));
-        assert_eq!(watch.take(word), Answer::Ok);
+        assert!(matches!(watch.take(8).answer, Answer::Refused(r) if r.number() == 15));
+        assert_eq!(watch.take(word).answer, Answer::Ok);
     }
 }
 
@@ -357,12 +357,12 @@ fn refused_calls_take_no_time() {
 fn a_watch_that_is_copied_goes_on_by_itself() {
     let program = open(&abc("a @ (b, c) || !a"));
     let mut watch = Watch::new(&program);
-    assert_eq!(watch.take(1), Answer::Ok);
+    assert_eq!(watch.take(1).answer, Answer::Ok);
     let mut other = watch.clone();
-    assert_eq!(watch.take(3), Answer::Ok);
-    assert_eq!(other.take(2), Answer::Ok);
+    assert_eq!(watch.take(3).answer, Answer::Ok);
+    assert_eq!(other.take(2).answer, Answer::Ok);
     assert_eq!(watch.look(4), Answer::Bad(0));
-    assert_eq!(other.take(5), Answer::Ok);
-    assert_eq!(watch.take(4), Answer::Bad(0));
-    assert_eq!(other.take(2), Answer::Ok);
+    assert_eq!(other.take(5).answer, Answer::Ok);
+    assert_eq!(watch.take(4).answer, Answer::Bad(0));
+    assert_eq!(other.take(2).answer, Answer::Ok);
 }

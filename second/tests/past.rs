@@ -294,24 +294,24 @@ fn a_refused_call_leaves_the_word_before() {
     let program = program("a || !a & F == past(F)");
     let mut watch = Watch::new(&program);
     let stray = 1 << 9 | word(4, 0);
-    assert!(matches!(watch.take(stray), Answer::Refused(r) if r.number() == 15));
+    assert!(matches!(watch.take(stray).answer, Answer::Refused(r) if r.number() == 15));
     assert_eq!(watch.word_before(), 0);
-    assert_eq!(watch.take(word(0, 1)), Answer::Ok);
-    assert_eq!(watch.take(word(5, 0) | 1), Answer::Ok);
-    assert!(matches!(watch.take(stray), Answer::Refused(r) if r.number() == 15));
+    assert_eq!(watch.take(word(0, 1)).answer, Answer::Ok);
+    assert_eq!(watch.take(word(5, 0) | 1).answer, Answer::Ok);
+    assert!(matches!(watch.take(stray).answer, Answer::Refused(r) if r.number() == 15));
     assert_eq!(watch.word_before(), word(5, 0) | 1);
-    assert_eq!(watch.take(word(5, 7)), Answer::Ok);
-    assert_eq!(watch.take(word(4, 7)), Answer::Bad(0));
+    assert_eq!(watch.take(word(5, 7)).answer, Answer::Ok);
+    assert_eq!(watch.take(word(4, 7)).answer, Answer::Bad(0));
 }
 
 #[test]
 fn a_bad_call_leaves_the_word_before() {
     let program = program("F == past(F)");
     let mut watch = Watch::new(&program);
-    assert_eq!(watch.take(word(0, 3)), Answer::Ok);
-    assert_eq!(watch.take(word(1, 4)), Answer::Bad(0));
+    assert_eq!(watch.take(word(0, 3)).answer, Answer::Ok);
+    assert_eq!(watch.take(word(1, 4)).answer, Answer::Bad(0));
     assert_eq!(watch.word_before(), word(0, 3));
-    assert!(matches!(watch.take(word(0, 3)), Answer::Refused(r) if r.number() == 16));
+    assert!(matches!(watch.take(word(0, 3)).answer, Answer::Refused(r) if r.number() == 16));
     assert_eq!(watch.word_before(), word(0, 3));
 }
 

@@ -13,7 +13,7 @@ const REFUSED: &[u8] = b"refused 3 0\n";
 
 /// A look at 0, a take of 1, and what they answer.
 const CALLS: &[u8] = b"L\0\0\0\0\0\0\0\0T\x01\0\0\0\0\0\0\0";
-const ANSWERS: &[u8] = b"rows 1 letters 1\nlook bad 0\ntake ok\n";
+const ANSWERS: &[u8] = b"rows 1 letters 1\nlook bad 0\ntake ok touched 1\n";
 
 /// The bytes of a case.
 fn case(kind: u8, strings: &[&[u8]]) -> Vec<u8> {

@@ -83,3 +83,17 @@ pub mod Openings
 pub mod Examples
 -- opening accepts the acceptable texts, refuses the other texts of the grammar with 8 to 12 as stated, and all others by reading
 pub mod Exactly
+-- what a tick touches, counted without branches
+pub mod Counting
+-- what a tick touches, told by the branches, is what the letters met at the tick before do
+pub mod Touching
+-- the rows touched, each counted once, are a tally over the expression
+pub mod Tally
+-- with one letter met in each thread at most, that is a sum of one number a letter met and one a thread asked
+pub mod Levels
+-- the sums depend on the letters met alone, not on where their numbers begin
+pub mod CountingLaws
+-- so the rows touched are counted from where the machine stands, and are at most twice the rows
+pub mod TouchedCount
+-- what walks from the letters met may spend, each from its own, is at most three times the touches of the tick
+pub mod Spent

@@ -668,7 +668,7 @@ Steady m (on ns) = ((k : ℕ) → k ∈ ns → Has k m) × Single m ns
 one-only : (c : ℕ → Bool) (n : ℕ) → count c (n ∷ []) ≤ 1
 one-only c n = one-counted (c n) 1 (λ u. omega arith)
 
-one-single : (m : Exp) (n : ℕ) → Single m (n ∷ [])
+pub one-single : (m : Exp) (n : ℕ) → Single m (n ∷ [])
 one-single m n = record { line = one-only (among (own m)) n; each = λ f i. one-only (among (own f)) n }
 
 module _ (m : Exp) (ac : Accepted m) where

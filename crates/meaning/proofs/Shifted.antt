@@ -101,7 +101,7 @@ module _ (k : ℕ) where
   threads-shifted (star e) = threads-shifted e
   threads-shifted (pipe e f) = ap (λ gs. shifted f ∷ gs) (ap₂ _++_ (threads-shifted e) (threads-shifted f) ∙ sym (map-append (shifted) (threads e) (threads f)))
 
-  nullable-shifted : (e : Exp) → nullable (shifted e) ≡ nullable e
+  pub nullable-shifted : (e : Exp) → nullable (shifted e) ≡ nullable e
   unfolding nullable shifted
   nullable-shifted (letter l) = refl
   nullable-shifted (seq e f) = ap₂ _&&_ (nullable-shifted e) (nullable-shifted f)
@@ -109,7 +109,7 @@ module _ (k : ℕ) where
   nullable-shifted (star e) = refl
   nullable-shifted (pipe e f) = refl
 
-  last-shifted : (n : ℕ) (e : Exp) → last (k + n) (shifted e) ≡ last n e
+  pub last-shifted : (n : ℕ) (e : Exp) → last (k + n) (shifted e) ≡ last n e
   unfolding last shifted
   last-shifted n (letter l) = eqb-shifted n (l .number)
   last-shifted n (seq e f) = ap₂ _||_ (last-shifted n f) (ap₂ _&&_ (nullable-shifted f) (last-shifted n e))

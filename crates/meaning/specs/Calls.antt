@@ -1,5 +1,5 @@
--- The replies to a list of calls, looks and takes, on one watch from its opening on (docs/REFERENCE.md, W1 to W11).
-use mathlib.Core.List.{List, [], _∷_, _++_}
+-- The replies to a list of calls, looks and takes, on one watch from its opening on (docs/REFERENCE.md, W1 to W12).
+use mathlib.Core.List.{List, [], _∷_, _++_, map}
 use mathlib.Core.Bool.{Bool, true, false, not, cond}
 use mathlib.Core.Path.{_≡_}
 use mathlib.Core.Logic.{_↔_}
@@ -9,6 +9,7 @@ use lib.ListN.{length, take as upTo, getD}
 use Rattle.meaning.specs.Lists.{any, count, only}
 use Rattle.refusals.specs.Numbers as number
 use Rattle.meaning.specs.Expression.{Exp}
+use Rattle.meaning.specs.Touched.{touched}
 use Rattle.meaning.specs.Fit.{Verdict, ok as clean, bad as broken, History, start, onward, history, judged}
 
 -- W2: "A call is a look or a take, and hands over a watch and a 64-bit word"
@@ -146,3 +147,33 @@ abbrev pub AllRightly : List Exp → List ℕ → ℕ → List Call → List Rep
 AllRightly ms initial wires cs rs =
     (n : ℕ) → n < length cs
     → Rightly ms initial wires (taken (upTo n cs)) (takenReplies (upTo n cs) (upTo n rs)) (wordOf (getD cs n (take 0))) (getD rs n ok)
+
+-- ---- the rows that takes touch ----
+
+-- W12: a take tells how many rows it touched, "0 if it is refused, and if it is ok or bad the number of its tick"
+abbrev pub touchedBy : Reply → ℕ → ℕ
+touchedBy ok n = n
+touchedBy (bad m) n = n
+touchedBy (refused k p) n = 0
+
+-- W2 and W12: what a look answers, and what a take does; "A look tells none"
+pub data Answer : Type 0 where
+  looked : Reply → Answer
+  took : Reply → (touched : ℕ) → Answer
+
+abbrev pub replyIn : Answer → Reply
+replyIn (looked r) = r
+replyIn (took r n) = r
+
+-- a call, at a tick that touches n rows, is answered so
+abbrev pub Tells : (n : ℕ) → Call → Answer → Type 0
+Tells n (look w) (looked r) = Unit {0}
+Tells n (look w) (took r k) = ⊥
+Tells n (take w) (looked r) = ⊥
+Tells n (take w) (took r k) = k ≡ touchedBy r n
+
+-- W11 and W12: every call of the list is rightly answered, by the takes before it
+abbrev pub AllAnswered : List Exp → List ℕ → ℕ → List Call → List Answer → Type 0
+AllAnswered ms initial wires cs xs =
+    AllRightly ms initial wires cs (map replyIn xs)
+    × ((n : ℕ) → n < length cs → Tells (touched ms (standing ms initial wires (upTo n cs) .inner .ticks)) (getD cs n (take 0)) (getD xs n (looked ok)))

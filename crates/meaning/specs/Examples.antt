@@ -1,5 +1,5 @@
 -- The shared list of examples: rule texts and words with their right sheets (docs/REFERENCE.md, P1 to P7), which the customer's specification and its requests give; and looks
--- and takes with the right replies (W10 and W11).
+-- and takes with the right replies (W10 and W11); and how many rows are touched (F23 to F26).
 -- Assumes nothing.
 use Prim.Native.Nat.{ℕ}
 use Prim.Native.String.{String}
@@ -131,4 +131,31 @@ dialogues =
     }
     -- a look whose word became the word before: a would have been 1, and the take would be bad
     ∷ record { text = overAbc "b || a == past(a) & !b"; calls = look 3 ∷ take 0 ∷ []; replies = ok ∷ ok ∷ [] }
+    ∷ []
+
+-- ---- rows touched
+
+-- the numbers for each of these words, and for the tick behind them
+pub record Touching : Type 0 where
+  pub text : List ℕ
+  pub words : List ℕ
+  pub numbers : List ℕ
+
+abbrev touching : String → List ℕ → List ℕ → Touching
+touching e ws ns = record { text = overAbc e; words = ws; numbers = ns }
+
+-- F23 to F26, each with a reading by which a number would be another
+abbrev pub touchings : List Touching
+touchings =
+    -- the star left only with its body: 4 at tick 0; asked again with a further round: 5 at tick 1
+    touching "a*, b & !a" (1 ∷ []) (5 ∷ 4 ∷ [])
+    -- a monitor that begins again not asked: 1 at tick 1, and 2 at tick 2 of the second
+    ∷ touching "a" (1 ∷ []) (1 ∷ 2 ∷ [])
+    ∷ touching "a, b" (1 ∷ 2 ∷ []) (2 ∷ 2 ∷ 4 ∷ [])
+    -- the `@` left with its thread: 7 at tick 1; the thread still left a tick after its last letter: 7 at tick 3
+    ∷ touching "a @ b || !a" (1 ∷ 2 ∷ 0 ∷ []) (4 ∷ 8 ∷ 7 ∷ 6 ∷ [])
+    -- a thread that is busy not asked: 6 at tick 2
+    ∷ touching "a @ (b, c)" (1 ∷ 3 ∷ []) (2 ∷ 6 ∷ 8 ∷ [])
+    -- a row reached in two ways counted twice: 12 at tick 0
+    ∷ touching "((a & !b)* || (b & !a)*), c & !a & !b" (1 ∷ []) (10 ∷ 5 ∷ [])
     ∷ []

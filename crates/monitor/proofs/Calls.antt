@@ -266,6 +266,12 @@ module _ (text : List ℕ) (o : Opened) (e : openText text ≡ value o) where
       machine-states (o .monitors) padded (length (o .initial)) v (Program.monitors-counted o c) (c .few-monitors) few-letters step-right (stateOf v)
       (machine.opened (o .monitors) (o .initial)) start-like
 
+  -- its marks are then the machine's positions
+  pub marks-right : (cs : List Call) → MarksAll (watchAfterAll (watchOf (value o)) cs .marks) 0 0 (o .monitors)
+      (stateFrom (machine.answer (o .monitors)) (machine.moved (o .monitors)) (o .wires) (opening (machine.opened (o .monitors) (o .initial))) cs .inner .positions)
+  unfolding v
+  marks-right cs = rw (watches-by v (stateOf v) cs) (states-like cs .0 .marks)
+
   -- After any list of calls the watch has the tick count, the stop, the word before and the store values that the meaning fixes, zeros behind these; all else but the marks is
   -- as it was opened.
   pub watch-held : (cs : List Call) → Held (watchOf (value o)) (watchAfterAll (watchOf (value o)) cs) (stood (o .monitors) (o .initial) (o .wires) cs)
@@ -285,8 +291,6 @@ module _ (text : List ℕ) (o : Opened) (e : openText text ≡ value o) where
   -- F17 in the watch: after any list of calls each thread has at most one letter of its own marked.
   pub one-active : (cs : List Call) (m : Exp) → m ∈ numberedFrom 0 (o .monitors) → (f : Exp) → f ∈ threads m → (a b : ℕ) → T (among (own f) a) → T (among (own f) b)
       → (getD (watchAfterAll (watchOf (value o)) cs .marks) a 0 ≡ 0 → ⊥) → (getD (watchAfterAll (watchOf (value o)) cs .marks) b 0 ≡ 0 → ⊥) → a ≡ b
-  unfolding v
   one-active cs =
       let (t, _, _) = machine-stands text o e cs in
-      rw (watches-by v (stateOf v) cs)
-      (one-marked _ _ 0 0 (o .monitors) _ (λ m i. (ordered m i, all-accepted text o e m i)) (states-like cs .0 .marks) (t .0))
+      one-marked _ _ 0 0 (o .monitors) _ (λ m i. (ordered m i, all-accepted text o e m i)) (marks-right cs) (t .0)

@@ -25,6 +25,10 @@ mod LetterSteps
 mod Marked
 -- the thread of each letter, by the branches and the loop of the code
 mod ThreadSteps
+-- how many rows asking and leaving each row touches, by the branches and the loops of the code
+mod CountSteps
+-- how many rows a tick touches, by the branches and the loops of the code
+mod TallySteps
 -- behind the last letter that writes nothing is written; the word of the tables that has the numbers of letters to be looked at
 mod Writers
 -- the rows shut at a tick are those of the threads that are busy
@@ -51,6 +55,10 @@ mod LetterRows
 pub mod Program
 -- its letters' threads are those of its expressions (`thread-rows-right`), and from which letter to which one need look for them (`unthreaded-before`, `threaded-enough`)
 pub mod ThreadRows
+-- the places and costs of its rows are those of its expressions
+mod CountRows
+-- what is counted over the marks by them is the sums over the letters met and the threads asked
+mod TouchedLetters
 -- a watch's store values are the meaning's with zeros behind them
 mod Padded
 -- the literals, writes and first store values of an accepted text fit the watch
@@ -61,3 +69,9 @@ mod LetterTests
 mod Starts
 -- every list of calls on the watch of an accepted text gets the replies that its meaning fixes (`calls-answered`)
 pub mod Calls
+-- and every take on it tells the number of rows that the definition says
+pub mod TouchedRows
+-- the calls that a walk makes over the rows of an expression are no more than it may spend there
+mod VisitedRows
+-- so the walk of a tick visits at most three times as many rows as the tick touches
+pub mod Visited

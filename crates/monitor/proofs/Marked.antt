@@ -103,6 +103,22 @@ module _ (K : List ℕ) where
       let d : to - i ≡ suc (to - suc i) = omega arith in
       sym (ap (λ (n : ℕ). firstMarked K n i) d ∙ left (eqb (getD K i 0) 0) _ i (ne-eqb (getD K i 0) 0 z))
 
+  -- the first is marked, where there is one
+  first-is : (n l : ℕ) → firstMarked K n l < l + n → getD K (firstMarked K n l) 0 ≡ 0 → ⊥
+  unfolding firstMarked
+  first-is zero l h z = omega (arith, h)
+  first-is (suc n) l h z = by (eqb (getD K l 0) 0) refl h z (first-is n (suc l))
+    where
+      by : (b : Bool) → eqb (getD K l 0) 0 ≡ b → cond b (firstMarked K n (suc l)) l < l + suc n → getD K (cond b (firstMarked K n (suc l)) l) 0 ≡ 0
+          → (firstMarked K n (suc l) < suc l + n → getD K (firstMarked K n (suc l)) 0 ≡ 0 → ⊥) → ⊥
+      by true e x y more = more (omega (arith, x)) y
+      by false e x y more = eqb-false (getD K l 0) 0 e y
+
+  pub at-first : (to i j : ℕ) → j ≡ firstMarked K (to - i) i → j < to → getD K j 0 ≡ 0 → ⊥
+  at-first to i j e h z =
+      let l = first-above (to - i) i in
+      first-is (to - i) i (omega (arith, e, h, l)) (ap (λ (k : ℕ). getD K k 0) (sym e) ∙ z)
+
   pub first-none : (to i : ℕ) → to ≤ i → i ≡ firstMarked K (to - i) i
   unfolding firstMarked
   first-none to i h = let d : to - i ≡ 0 = omega arith in sym (ap (λ (n : ℕ). firstMarked K n i) d)

@@ -133,7 +133,7 @@ in-marked K (suc n) l i x y k = by (eqb (getD K l 0) 0) refl (eqb i l) refl (λ 
     by false e true q more = here (eqb-true i l q)
     by false e false q more = there (more (let w = eqb-false i l q in omega (arith, x, w)))
 
-marked-in : (K : List ℕ) (n l i : ℕ) → i ∈ markedFrom K n l → (l ≤ i) × (i < l + n) × (getD K i 0 ≡ 0 → ⊥)
+pub marked-in : (K : List ℕ) (n l i : ℕ) → i ∈ markedFrom K n l → (l ≤ i) × (i < l + n) × (getD K i 0 ≡ 0 → ⊥)
 unfolding markedFrom
 marked-in K zero l i j = absurd (no-∈ j)
 marked-in K (suc n) l i j = by (eqb (getD K l 0) 0) refl j (λ h. let (x, y, z) = marked-in K n (suc l) i h in (omega (arith, x), omega (arith, y), z))

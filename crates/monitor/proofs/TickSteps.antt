@@ -11,13 +11,14 @@ use lib.ListN.{getD, set}
 use lib.Pow.{pow-pos, pow-mono}
 use lib.Seq.{set-getD}
 use Rattle.meaning.specs.Fit.{ok as clean, bad as broken}
-use Rattle.meaning.specs.Calls.{Reply, refused, isStray, isFull, reply, after, replyOf as verdictReply}
+use Rattle.meaning.specs.Calls.{Reply, refused, isStray, isFull, reply, after, replyOf as verdictReply, touchedBy}
 use Rattle.words.specs.Words.{part1}
 use Rattle.monitor.specs.Letters.{Given, given, threaded, unthreaded}
 use Rattle.monitor.specs.Walk.{Told, told, askM, leaveM}
 use Rattle.monitor.specs.Ticks.{steps, Layout, layout, firstMarked, ifMarked, eachMarked, shutRow, shutCode, shutFor, shutBusy, andThen, letterGoes, lettersGo, startGoes, lettersEnd, monitorGoes, Reached, reached, reachedBy, monitorsGo, marksAfter, writeMarked, writers, Move, move, emptyMemory, moveBy, stepWithin, stepOf, within, stuckAt}
 use Rattle.rules.specs.declared.Watch.{Watch}
-use Rattle.monitor.specs.Calls.{Moving, tablesOf, withState, refusedBy, stateOf, judge, onward, stepFrom, layoutOf, replyOf, watchAfter}
+use Rattle.monitor.specs.Counts.{counts, countsOf, touchedOf}
+use Rattle.monitor.specs.Calls.{Moving, tablesOf, withState, refusedBy, stateOf, judge, onward, stepFrom, layoutOf, replyOf, touchedOn, touchedFor, watchAfter}
 use Rattle.monitor.specs.Shown.{shownAnswer}
 use Rattle.monitor.specs.declared.Answer.the-variants.{Ok, Bad, Refused}
 use Rattle.monitor.proofs.LetterSteps.{taken, left}
@@ -270,6 +271,17 @@ lent-step v s w t a e d = d ∙ ap (λ (u : List (List ℕ)). stepOf (given u (s
 pub lent-peek : (v : Watch) (s : Moving) (w : ℕ) (t : List (List ℕ)) (i : ℕ) → t ≡ tablesOf v → i ≡ stepOf (given t (s .values) (w ∷ s .last ∷ [])) (layoutOf v) (s .marks) .monitor
     → i ≡ stepFrom v s w .monitor
 lent-peek v s w t i e d = d ∙ ap (λ (a : Move). a .monitor) (lent-step v s w t _ e refl)
+
+-- and so are the rows touched, by lent counts
+pub lent-touched : (v : Watch) (t cs : List (List ℕ)) (n : ℕ) → t ≡ tablesOf v → cs ≡ countsOf v
+    → n ≡ min (touchedOf (counts (getD t 0 []) cs (v .places)) (v .own) (v .marks) (v .monitors) (v .letters)) 65535 → n ≡ touchedOn v
+unfolding touchedOn
+lent-touched v t cs n e f d =
+    d ∙ ap₂ (λ (u z : List (List ℕ)). min (touchedOf (counts (getD u 0 []) z (v .places)) (v .own) (v .marks) (v .monitors) (v .letters)) 65535) e f
+
+-- what a take of a word tells, by its reply
+pub told-by : (v : Watch) (w : ℕ) (r : Reply) → r ≡ replyOf v w → touchedBy r (touchedOn v) ≡ touchedFor v w
+told-by v w r e = ap (λ (t : Reply). touchedBy t (touchedOn v)) e
 
 module _ (v : Watch) (w n : ℕ) (e : n ≡ refusedBy (v .stopped) (v .ticks) (v .wires) w) where
   reply-refused : (n ≡ 0 → ⊥) → replyOf v w ≡ refused n 0

@@ -1,19 +1,21 @@
--- A look or a take on a watch, and a list of them (docs/REFERENCE.md, W2 to W11): any watch, any words. Assumes nothing.
+-- A look or a take on a watch, and a list of them (docs/REFERENCE.md, W2 to W12): any watch, any words. Assumes nothing.
 use mathlib.Core.Bool.{Bool, cond, _&&_}
 use mathlib.Core.List.{List, [], _∷_}
 use mathlib.Core.Path.{_≡_}
-use Prim.Native.Nat.{ℕ, zero, suc, _+_, _*_}
+use Prim.Native.Nat.{ℕ, zero, suc, _+_, _*_, min}
 use lib.Dec.{eqb}
 use lib.ListN.{getD, set, replicate}
 use lib.Seq.{sets}
 use Rattle.refusals.specs.Numbers.{stray, stopped, full}
 use Rattle.meaning.specs.Fit.{Verdict, History}
-use Rattle.meaning.specs.Calls.{Call, look, take, wordOf, Reply, isFull, isStray, State, reply, after}
+use Rattle.meaning.specs.Calls.{Call, look, take, wordOf, Reply, isFull, isStray, State, reply, after, touchedBy, Answer, looked, took}
 use Rattle.words.specs.Words.{quad}
 use Rattle.rules.specs.declared.Watch.{Watch}
 use Rattle.monitor.specs.Letters.{Given, given}
 use Rattle.monitor.specs.Threads.{threadsOf}
-use Rattle.monitor.specs.Ticks.{Layout, layout, firstMarked, Move, stepOf, verdictOf}
+use Rattle.monitor.specs.Counts.{counts, countsOf, touchedOf}
+use Rattle.monitor.specs.Ticks.{Layout, layout, within, firstMarked, Move, stepOf, verdictOf}
+use Rattle.monitor.specs.Visits.{visitsWithin}
 
 -- W7: what moves from tick to tick, the marks, the store values and the word of the last tick.
 pub record Moving : Type 0 where
@@ -102,6 +104,17 @@ replyOf v w = reply (judge v) (v .wires) (stateOf v) w
 unfoldable pub watchAfter : Watch → ℕ → Watch
 watchAfter v w = withState v (after (onward v) (stateOf v) w (replyOf v w))
 
+-- W12: the rows that a tick touches on the watch, as far as that can be told, and those that a take of a word tells
+unfoldable pub touchedOn : Watch → ℕ
+touchedOn v = min (touchedOf (counts (v .table) (countsOf v) (v .places)) (v .own) (v .marks) (v .monitors) (v .letters)) 65535
+
+abbrev pub touchedFor : Watch → ℕ → ℕ
+touchedFor v w = touchedBy (replyOf v w) (touchedOn v)
+
+-- how many rows the walk of a tick with the word w visits on the watch
+abbrev pub visitsOn : Watch → ℕ → ℕ
+visitsOn v w = visitsWithin (givenOf v (v .values) (w ∷ v .before ∷ [])) (within (layoutOf v)) (v .marks)
+
 -- the number of a refused call (W3 to W5, in the order of X11), or 0
 abbrev pub refusedBy : (stopped : Bool) → (oks wires word : ℕ) → ℕ
 refusedBy b n wires w = cond b stopped (cond (isFull n) full (cond (isStray wires w) stray 0))
@@ -115,6 +128,15 @@ watchAfterCall v (take w) = watchAfter v w
 unfoldable pub repliesOf : Watch → List Call → List Reply
 repliesOf v [] = []
 repliesOf v (c ∷ cs) = replyOf v (wordOf c) ∷ repliesOf (watchAfterCall v c) cs
+
+-- W12: the same with the rows that takes touch
+abbrev pub answerOf : Watch → Call → Answer
+answerOf v (look w) = looked (replyOf v w)
+answerOf v (take w) = took (replyOf v w) (touchedFor v w)
+
+unfoldable pub answersOf : Watch → List Call → List Answer
+answersOf v [] = []
+answersOf v (c ∷ cs) = answerOf v c ∷ answersOf (watchAfterCall v c) cs
 
 -- and the watch after them
 unfoldable pub watchAfterAll : Watch → List Call → Watch

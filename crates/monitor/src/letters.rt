@@ -27,7 +27,7 @@ fn link_value(link: u64, number: u64, word: u64) -> u64
 }
 
 // A store's value; 0 where there is no such store.
-fn value_at(values: &[u64], store: usize) -> u64
+pub(crate) fn value_at(values: &[u64], store: usize) -> u64
     ensures { λ r. ⌜ r ≡ getD (now (values .entry)) store 0 ⌝ }
 {
     if store < values.len() {

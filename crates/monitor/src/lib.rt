@@ -3,14 +3,17 @@
 // `is_bad` are what a look or a take is made of.
 // What they answer is said for every watch, also one that no call ever gave (specs/Calls.antt, specs/Ticks.antt).
 mod busy;
+mod counts;
 mod letters;
 mod marks;
 mod positions;
 mod tables;
+mod tally;
 mod threads;
 mod walk;
 
 use busy::shut_marked;
+pub use counts::counts_of;
 use letters::write_letter;
 use marks::first_marked;
 use marks::put_marks;
@@ -20,6 +23,7 @@ use rules::Watch;
 use tables::LETTERS;
 use tables::THREADS;
 pub use tables::tables_of;
+pub use tally::touched;
 use words::part1;
 use words::part2;
 use words::part3;
@@ -30,7 +34,7 @@ ghost use Prim.Native.Nat.{ℕ, suc, _≤_, _<_, min};
 ghost use Rattle.meaning.specs.Calls.{isStray};
 ghost use Rattle.monitor.specs.Letters.{given};
 ghost use Rattle.monitor.specs.Ticks.{layout, reached, shutBusy, monitorsGo, writeIf, writeMarked, move, stepOf, stuckAt};
-ghost use Rattle.monitor.specs.Calls.{stateOf, withState, refusedBy, replyOf, watchAfter};
+ghost use Rattle.monitor.specs.Calls.{stateOf, withState, refusedBy, replyOf, touchedFor, watchAfter};
 ghost use Rattle.monitor.specs.Shown.{shownAnswer};
 
 // ---- what a good tick leaves
@@ -198,6 +202,8 @@ pub enum Answer {
 // What a take answers, and the watch for the next call.
 pub struct Taken {
     pub answer: Answer,
+    // How many rows the tick touched; 0 if the take is refused.
+    pub touched: usize,
     pub watch: Watch,
 }
 
@@ -279,16 +285,27 @@ pub fn look(watch: Watch, word: u64) -> Answer
 // What the word comes to, and the watch after it. A bad tick leaves the watch stopped and otherwise as before it; a refused take
 // leaves it as it was.
 pub fn take(watch: Watch, word: u64) -> Taken
-    ensures { λ r. ⌜ (shownAnswer (r .answer) ≡ replyOf watch word) × (r .watch ≡ watchAfter watch word) ⌝ }
+    ensures { λ r. ⌜ (shownAnswer (r .answer) ≡ replyOf watch word) × (r .touched ≡ touchedFor watch word) × (r .watch ≡ watchAfter watch word) ⌝ }
 {
     let number = refused_by(watch.stopped, watch.ticks, watch.wires, word);
     if number != 0 {
         return Taken {
             answer: Answer::Refused(number),
+            touched: 0,
             watch,
         };
     }
     let tables = tables_of(watch);
+    let counts = counts_of(watch);
+    let rows = touched(
+        &tables,
+        &counts,
+        &watch.places,
+        &watch.own,
+        watch.monitors,
+        watch.letters,
+        &watch.marks,
+    );
     let mut marks = watch.marks;
     let mut values = watch.values;
     let monitor = step(
@@ -307,12 +324,14 @@ pub fn take(watch: Watch, word: u64) -> Taken
         let next = stopped(watch);
         return Taken {
             answer: Answer::Bad(monitor),
+            touched: rows,
             watch: next,
         };
     }
     let next = moved_on(watch, marks, values, word);
     Taken {
         answer: Answer::Ok,
+        touched: rows,
         watch: next,
     }
 }

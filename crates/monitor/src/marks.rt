@@ -24,24 +24,16 @@ fn quiet(marks: &[u8; 288], from: usize, to: usize) -> bool
         == 0
 }
 
-// The first marked letter from one up to another, or that. Where one of eight is marked, `near` is behind them, and they are looked
-// at one by one.
+// The first marked letter from one up to another, or that.
 pub(crate) fn first_marked(marks: &[u8; 288], from: usize, to: usize) -> usize
     requires { ⌜ to ≤ 256 ⌝ }
     ensures { λ r. ⌜ r ≡ firstMarked (now (marks .entry)) (to - from) from ⌝ }
 {
     let mut letter = from;
-    let mut near = from;
     while letter < to {
-        if letter < near {
-            if marks[letter] != 0 {
-                return letter;
-            }
-            letter += 1;
-        } else if quiet(marks, letter, to) {
+        if quiet(marks, letter, to) {
             letter += 8;
         } else {
-            near = letter + 8;
             if marks[letter] != 0 {
                 return letter;
             }

@@ -21,7 +21,7 @@ pub(crate) fn least(a: usize, b: usize) -> usize
     b
 }
 
-fn wide(x: u16) -> usize
+pub(crate) fn wide(x: u16) -> usize
     ensures { λ r. ⌜ r ≡ x ⌝ }
 {
     x as usize

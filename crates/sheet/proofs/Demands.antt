@@ -1,10 +1,10 @@
 -- The demands on the line watch, as statements, each with the theorem that proves it. Definitions stand in specs/, proofs where a citation names them; docs/PROOF.md says
 -- each statement in words. Assumes nothing.
-use mathlib.Core.Path.{_≡_, _∙_, sym, subst}
+use mathlib.Core.Path.{_≡_, _∙_}
 use mathlib.Core.Bool.{Bool, true, not}
 use mathlib.Core.Logic.{_⊎_, _↔_}
 use mathlib.Core.List.{List, [], _∷_, _++_, map}
-use Prim.Native.Nat.{ℕ, suc, _-_, _<_, _≤_}
+use Prim.Native.Nat.{ℕ, suc, _*_, _-_, _<_, _≤_}
 use lib.Dec.{T}
 use lib.ListN.{length, getD, replicate}
 use Rattle.refusals.specs.Numbers.{overlong}
@@ -38,11 +38,12 @@ use Rattle.meaning.specs.Viable.{Viable, Ample, Refusal}
 use Rattle.meaning.specs.Acceptance.{Written, Acceptable, TurnedAway}
 use Rattle.meaning.specs.Table.{laidAll}
 use Rattle.meaning.specs.Numbered.{numberedFrom}
-use Rattle.meaning.specs.Calls.{Call, look, take, Reply, opening, standing, taken, takenReplies, AllRightly}
+use Rattle.meaning.specs.Touched.{touched}
+use Rattle.meaning.specs.Calls.{Call, look, take, replyIn, standing, taken, takenReplies, AllAnswered}
 use Rattle.meaning.specs.Lists.{_∈_}
 use Rattle.meaning.specs.Expression.{Letter, Exp, letters, own}
 use Rattle.meaning.specs.Shape.{last, threads}
-use Rattle.meaning.specs.Fit.{Tick, Run, anything, runs, branches, among, required, fits, start}
+use Rattle.meaning.specs.Fit.{Tick, Run, anything, runs, branches, among, required, fits}
 use Rattle.meaning.specs.Sheet.{sheet}
 use Rattle.meaning.proofs.Exactly as exactly
 use Rattle.meaning.proofs.Viable as viable
@@ -50,7 +51,6 @@ use Rattle.meaning.proofs.Rows.{rows-no-more}
 use Rattle.meaning.proofs.Openings as openings
 use Rattle.meaning.proofs.Requires as requires
 use Rattle.meaning.proofs.StartEnds as ends
-use Rattle.meaning.proofs.Calls.{length-replies, replies-rightly}
 use Rattle.masks.proofs.passes.Statement as passes
 use Rattle.masks.proofs.passes.Met as passes-met
 use Rattle.rules.specs.Laying.{rowWord, codeOf}
@@ -58,16 +58,22 @@ use Rattle.rules.specs.Watches.{watchOf}
 use Rattle.rules.specs.declared.Watch.{Watch}
 use Rattle.rules.proofs.open.Statement as open-text
 use Rattle.rules.proofs.open.Met as open-text-met
-use Rattle.monitor.specs.Calls.{replyOf, watchAfter, repliesOf, watchAfterAll, Held}
+use Rattle.monitor.specs.Calls.{replyOf, watchAfter, repliesOf, answersOf, watchAfterAll, visitsOn, Held}
 use Rattle.monitor.proofs.Program as program
 use Rattle.monitor.proofs.Calls as calls
 use Rattle.monitor.proofs.Looks as looks
+use Rattle.monitor.proofs.TouchedRows as touched-rows
+use Rattle.monitor.proofs.Visited as visited
 use Rattle.monitor.proofs.peek.Statement as peek
 use Rattle.monitor.proofs.peek.Met as peek-met
 use Rattle.monitor.proofs.step.Statement as step
 use Rattle.monitor.proofs.step.Met as step-met
 use Rattle.monitor.proofs.tables_of.Statement as tables-of
 use Rattle.monitor.proofs.tables_of.Met as tables-of-met
+use Rattle.monitor.proofs.counts_of.Statement as counts-of
+use Rattle.monitor.proofs.counts_of.Met as counts-of-met
+use Rattle.monitor.proofs.touched.Statement as touched-by
+use Rattle.monitor.proofs.touched.Met as touched-by-met
 use Rattle.monitor.proofs.is_bad.Statement as is-bad
 use Rattle.monitor.proofs.is_bad.Met as is-bad-met
 use Rattle.monitor.proofs.refused_by.Statement as refused-by
@@ -132,6 +138,13 @@ is-bad-entry = is-bad-met.met
 
 pub tables-of-entry : {M : Type 1} → tables-of.statement M
 tables-of-entry = tables-of-met.met
+
+-- what leaving and asking each row of a watch touches, and the rows that a tick touches by that
+pub counts-of-entry : {M : Type 1} → counts-of.statement M
+counts-of-entry = counts-of-met.met
+
+pub touched-entry : {M : Type 1} → touched-by.statement M
+touched-entry = touched-by-met.met
 
 pub refused-by-entry : {M : Type 1} → refused-by.statement M
 refused-by-entry = refused-by-met.met
@@ -213,15 +226,24 @@ no-two-alike = traces.read-unique
 
 -- ---- Demand 3: every list of calls, and the printed sheet
 
--- For every accepted text and every list of looks and takes from its opening on, there is a reply to each call, and it is the right one for that call's word and the takes
--- before it.
+-- For every accepted text and every list of looks and takes from its opening on, there is an answer to each call, and it is the right one for that call's word and the takes
+-- before it: the reply, and of a take the number of rows that it touched.
 pub calls-rightly : (text : List ℕ) (o : Opened) → openText text ≡ value o → (cs : List Call)
-    → (length (repliesOf (watchOf (value o)) cs) ≡ length cs) × AllRightly (o .monitors) (o .initial) (o .wires) cs (repliesOf (watchOf (value o)) cs)
-calls-rightly text o e cs =
-    subst (λ (rs : List Reply). (length rs ≡ length cs) × AllRightly (o .monitors) (o .initial) (o .wires) cs rs) (sym (calls.calls-answered text o e cs)) (
-      length-replies (o .monitors) (o .initial) (o .wires) (opening (start (o .initial))) cs,
-      replies-rightly (o .monitors) (o .initial) (o .wires) cs,
-    )
+    → (length (answersOf (watchOf (value o)) cs) ≡ length cs) × AllAnswered (o .monitors) (o .initial) (o .wires) cs (answersOf (watchOf (value o)) cs)
+calls-rightly text o e cs = (touched-rows.answers-long (watchOf (value o)) cs, touched-rows.all-answered text o e cs)
+
+-- Without those numbers the answers are the replies that what follows speaks of.
+pub answers-reply : (v : Watch) (cs : List Call) → map replyIn (answersOf v cs) ≡ repliesOf v cs
+answers-reply = touched-rows.replies-in
+
+-- The number of rows that a tick touches is never above twice the rows of the table.
+pub touched-most : (text : List ℕ) (o : Opened) → openText text ≡ value o → (ts : List Tick) → touched (o .monitors) ts ≤ 2 * o .rowCount
+touched-most = touched-rows.few-touched
+
+-- After any calls, the walk of a tick with any word makes at most three times as many calls, each of which visits a row, as the tick touches rows.
+pub visits-few : (text : List ℕ) (o : Opened) → openText text ≡ value o → (cs : List Call) (w : ℕ)
+    → visitsOn (watchAfterAll (watchOf (value o)) cs) w ≤ 3 * touched (o .monitors) (standing (o .monitors) (o .initial) (o .wires) cs .inner .ticks)
+visits-few = visited.visits-few
 
 -- And the watch then has the tick count, the stop, the word before and the store values that the meaning fixes; all else of it but the marks is as opening gave it.
 pub watch-held : (text : List ℕ) (o : Opened) → openText text ≡ value o → (cs : List Call)

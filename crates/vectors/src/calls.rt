@@ -16,10 +16,15 @@ const LOOK: u8 = b'L';
 
 const TAKE: u8 = b'T';
 
-// A word and a number, and the end of the line.
-fn put_numbered(page: &mut [u8], at: usize, word: &[u8], n: u64) -> usize {
+// A word and a number.
+fn put_worded(page: &mut [u8], at: usize, word: &[u8], n: u64) -> usize {
     let to = put(page, at, word);
-    let to = put_number(page, to, n);
+    put_number(page, to, n)
+}
+
+// And the end of the line.
+fn put_numbered(page: &mut [u8], at: usize, word: &[u8], n: u64) -> usize {
+    let to = put_worded(page, at, word, n);
     put(page, to, b"\n")
 }
 
@@ -32,10 +37,18 @@ fn put_letter(page: &mut [u8], at: usize, letter: u8) -> usize {
 
 fn put_answer(page: &mut [u8], at: usize, answer: Answer) -> usize {
     match answer {
-        Answer::Ok => put(page, at, b"ok\n"),
-        Answer::Bad(monitor) => put_numbered(page, at, b"bad ", monitor as u64),
-        Answer::Refused(number) => put_numbered(page, at, b"refused ", number as u64),
+        Answer::Ok => put(page, at, b"ok"),
+        Answer::Bad(monitor) => put_worded(page, at, b"bad ", monitor as u64),
+        Answer::Refused(number) => put_worded(page, at, b"refused ", number as u64),
     }
+}
+
+// The end of a call's line: a take has the rows that it touched.
+fn put_touched(page: &mut [u8], at: usize, letter: u8, touched: usize) -> usize {
+    if letter == LOOK {
+        return put(page, at, b"\n");
+    }
+    put_numbered(page, at, b" touched ", touched as u64)
 }
 
 fn put_refusal(page: &mut [u8], number: u8) -> usize {
@@ -118,7 +131,11 @@ pub fn are_calls(bytes: &[u8]) -> bool {
 fn call(watch: Watch, letter: u8, word: u64) -> Taken {
     if letter == LOOK {
         let answer = look(watch, word);
-        return Taken { answer, watch };
+        return Taken {
+            answer,
+            touched: 0,
+            watch,
+        };
     }
     take(watch, word)
 }
@@ -138,6 +155,7 @@ fn put_calls(opened: Watch, calls: &[u8], page: &mut [u8], from: usize) -> usize
         let answer = called.answer;
         to = put_letter(page, to, letter);
         to = put_answer(page, to, answer);
+        to = put_touched(page, to, letter, called.touched);
         watch = called.watch;
         at = next;
     }

@@ -1,7 +1,7 @@
 //! Random looks and takes through a program that answers cases, and through `second`: `calls N SEED PROGRAM [ARGUMENT..]`. Both must print the same. A case that
 //! differs is made small and saved under `target/fuzz/`, in a folder named by its seed. Where answers end early, the case without one differs, and the run ends.
 
-use fuzz::calls::{self, Busy, Met};
+use fuzz::calls::{self, Busy, Met, Touches};
 use fuzz::random::Random;
 use fuzz::{save, shrink, Case};
 use second::stage::{self, Entry, Said};
@@ -37,6 +37,7 @@ struct Tally {
     differences: u64,
     met: Met,
     busy: Busy,
+    touches: Touches,
 }
 
 impl Tally {
@@ -49,6 +50,7 @@ impl Tally {
         for (i, entry) in entries.iter().enumerate().take(compared) {
             self.met.count(&entry.answer);
             self.busy.count(&cases[i]);
+            self.touches.count(&cases[i]);
             if said.answers.get(i) != Some(&entry.answer) {
                 self.differ(asked, seeds[i], &cases[i])?;
             }
@@ -78,6 +80,8 @@ impl Tally {
         println!("{:8} bad looks behind which a take was ok", self.met.went_on);
         let Busy { looks, went_on, takes } = self.busy;
         println!("{looks:8} looks bad for a busy thread alone, and {takes} takes; behind {went_on} of the looks a take was ok");
+        let Touches { cases, shared_ok, shared_bad, not_last } = self.touches;
+        println!("{cases:8} accepted: in {shared_ok} two letters lead to one row at an ok take, in {shared_bad} at a bad one; {not_last} bad before the last monitor");
         println!("{} cases, {} differences", self.cases, self.differences);
     }
 }

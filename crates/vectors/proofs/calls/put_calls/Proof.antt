@@ -52,6 +52,9 @@ put-letter-requires c κs = search needs
 put-answer-requires : tie.Need-put-answer-requires Inv-loop μ-loop
 put-answer-requires c κs = search needs
 
+put-touched-requires : tie.Need-put-touched-requires Inv-loop μ-loop
+put-touched-requires c κs = search needs
+
 loop-less : tie.Need-loop-less Inv-loop μ-loop
 loop-less c = search needs
 
@@ -83,6 +86,7 @@ put-calls-spec =
     call-requires
     put-letter-requires
     put-answer-requires
+    put-touched-requires
     loop-less
     loop-again
     same-length-2
