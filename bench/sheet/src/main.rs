@@ -164,8 +164,8 @@ fn held_or_not(dice: u64, before: u64) -> u64 {
     }
 }
 
-/// A chain of `n` starred letters and one more: 3n + 1 rows. A word that meets the last letter asks every row at each tick; one that meets the first, whose star goes
-/// round, asks two.
+/// A chain of `n` starred letters and one more: 3n + 1 rows. A word that meets the last letter has every row entered at each tick; one that meets the first, whose
+/// star goes round, two.
 fn stars(n: usize) -> Vec<u8> {
     let mut text = String::from("input F[7:0];\nchain -> ");
     for k in 0..n {
@@ -175,7 +175,7 @@ fn stars(n: usize) -> Vec<u8> {
     text.into_bytes()
 }
 
-/// Times of texts of more and more rows, all asked at each tick; and of the largest with two asked.
+/// Times of texts of more and more rows, all entered at each tick; and of the largest with two.
 fn linear() {
     for (n, last) in [(16, true), (33, true), (66, true), (133, true), (255, true), (255, false)] {
         let text = stars(n);
@@ -187,9 +187,9 @@ fn linear() {
             proved(&text, &trace, &mut range);
             best = best.min(start.elapsed().as_secs_f64());
         }
-        let asked = if last { 3 * n + 1 } else { 2 };
+        let entered = if last { 3 * n + 1 } else { 2 };
         let tick = best * 1e9 / TICKS as f64;
-        println!("(f) chain of {} rows, {asked} asked: {tick:.0} ns a tick, {:.2} ns a row asked", 3 * n + 1, tick / asked as f64);
+        println!("(f) chain of {} rows, {entered} entered: {tick:.0} ns a tick, {:.2} ns a row entered", 3 * n + 1, tick / entered as f64);
     }
 }
 

@@ -173,8 +173,8 @@ module _ (act : ℕ → Bool) where
       rw (starts-pipe act e f) (omega (arith, x, y, z, w, v))
 
 -- so of a monitor it is at most three times the sums
-pub spent-most : (m : Exp) → Solid m → T (not (nullable m)) → Numbered m → (ns : List ℕ) → Single m ns → spentAfter (λ n. member n ns) m ≤ 3 * sumsAfter (λ n. member n ns) m
-spent-most m s h a ns o =
+pub spent-most : (m : Exp) → Solid m → Numbered m → (ns : List ℕ) → Single m ns → spentAfter (λ n. member n ns) m ≤ 3 * sumsAfter (λ n. member n ns) m
+spent-most m s a ns o =
     let x = spent-parts (λ n. member n ns) m s a (alone m ns (o .line), λ f i. alone f ns (o .each f i)) (ownPlace m) 0 in
     let y = asks-most (λ n. member n ns) m (ownPlace m) false in
     let z = cond-plus (starts (λ n. member n ns) m) 0 0 in

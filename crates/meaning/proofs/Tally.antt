@@ -9,11 +9,9 @@ use native.Mathlib.Decide.{decLt}
 use lib.Dec.{T, T-not, not-T, eqb, eqb→eq, eqb-refl}
 use Rattle.meaning.specs.Lists.{_∈_, each, any, count, only, below, member}
 use Rattle.meaning.specs.Expression.{Letter, Exp, letter, seq, alt, star, pipe, letters, rows}
-use Rattle.meaning.specs.Shape.{nullable}
 use Rattle.meaning.specs.Positions.{has}
 use Rattle.meaning.specs.Touched.{Touch, asked, left, isAsked, isLeft, rowsIn}
 use Rattle.meaning.proofs.ListLaws.{here, there, no-∈, append-∈, ∈-left, ∈-right, only-∈, one-∈, any-to, and-T, by-cond, is-true, is-false, clash}
-use Rattle.meaning.proofs.Step.{Solid}
 use Rattle.meaning.proofs.OneWay.{Apart, Numbered, apart-has}
 use Rattle.meaning.proofs.Threads.{among-to, among-at, rest-has, one-own}
 use Rattle.meaning.proofs.Counting.{asking, leaving, touchesAtStart, touchesAfter, one, ends, tally, tallyAfter}
@@ -553,15 +551,15 @@ module _ (n : ℕ) (act : ℕ → Bool) where
 -- ---- the number of touches ----
 
 -- at a monitor's start
-pub tally-start : (m : Exp) → Solid m → rowsIn (rows m) (touchesAtStart m) ≡ tally (λ n. false) m true
-tally-start m s =
+pub tally-start : (m : Exp) → rowsIn (rows m) (touchesAtStart m) ≡ tally (λ n. false) m true
+tally-start m =
     rowsIn-same (rows m) (touchesAtStart m) (sweep none 0 m true)
     (λ p. asking-is p 0 m [] ∙ by-table 2 (λ s n. s || (n && false)) (λ s n. s) tt (any p (sweep none 0 m true)) (ends none m true))
     ∙ sweep-tally (rows m) none 0 m true (omega arith)
 
 -- where the letters ns were met at the tick before
-pub tally-met : (m : Exp) → Solid m → T (not (nullable m)) → Numbered m → (ns : List ℕ) → ((n : ℕ) → n ∈ ns → T (has n m))
+pub tally-met : (m : Exp) → Numbered m → (ns : List ℕ) → ((n : ℕ) → n ∈ ns → T (has n m))
     → rowsIn (rows m) (each ns (touchesAfter m)) ≡ tallyAfter (λ n. member n ns) m
-tally-met m s g a ns h =
+tally-met m a ns h =
     rowsIn-same (rows m) (each ns (touchesAfter m)) (sweep (λ n. member n ns) 0 m (ends (λ n. member n ns) m false)) (λ p. all-is p m a ns h)
     ∙ sweep-tally (rows m) (λ n. member n ns) 0 m (ends (λ n. member n ns) m false) (omega arith)

@@ -60,7 +60,7 @@ on-after m (u ∷ us) t x y p =
 module _ (m : Exp) (ac : Accepted m) where
   -- at the start
   start-counted : rowsIn (rows m) (touches m []) ≡ askedCount m
-  start-counted = ap (rowsIn (rows m)) (touches-start m) ∙ tally-start m (ac .solid .1) ∙ sums-start m (ac .solid .1)
+  start-counted = ap (rowsIn (rows m)) (touches-start m) ∙ tally-start m ∙ sums-start m (ac .solid .1)
 
   -- behind a tick, with the letters met at it as positions
   met-counted : (us : List Tick) (t : Tick) (ns : List ℕ) → positionsAfter (goCounted m) at-start (us ++ t ∷ []) ≡ some (on ns)
@@ -69,7 +69,7 @@ module _ (m : Exp) (ac : Accepted m) where
       let (inside, single) = steady-after m ac (us ++ t ∷ []) at-start (on ns) tt p in
       let same = positions-met m ac us t ns p in
       ap (rowsIn (rows m)) (touches-met m (ac .numbered) us t)
-      ∙ tally-met m (ac .solid .1) (ac .solid .0) (ac .numbered) (met m us t)
+      ∙ tally-met m (ac .numbered) (met m us t)
       (λ n i.
       let (k, j, e) = any-to (eqb n) ns (subst T (same n) (any-from (eqb n) i (eqb-refl n))) in
       let (l, h, q) = inside k j in

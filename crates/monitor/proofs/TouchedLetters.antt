@@ -11,11 +11,11 @@ use lib.Dec.{T, eqb, eqb→eq, eqb-refl, eqb·suc-zero, ltb}
 use lib.ListN.{length, getD, set, length-set, replicate, length-replicate}
 use lib.Seq.{getD-set-same, getD-set-other}
 use Rattle.meaning.specs.Lists.{total}
-use Rattle.meaning.specs.Expression.{Letter, Exp, letter, seq, alt, star, pipe, letters, size, rows, Ordered}
+use Rattle.meaning.specs.Expression.{Exp, letter, seq, alt, star, pipe, letters, size, rows, Ordered}
 use Rattle.meaning.specs.Shape.{nullable, last}
-use Rattle.meaning.proofs.ListLaws.{T-and, and-T, or-T, T-or-left, T-or-right, any-from, any-to, same-truth, is-true, is-false, by-cond}
-use Rattle.meaning.proofs.OneWay.{last-has}
+use Rattle.meaning.proofs.ListLaws.{or-T, T-or-left, T-or-right, is-true, is-false, by-cond}
 use Rattle.meaning.proofs.Counting.{Place, askedCount, leftOfSeq, rightOfSeq, sideOfAlt, bodyOfStar, leftOfPipe, threadPlace, ownPlace, starts, sums, sumsAfter}
+use Rattle.meaning.proofs.Levels.{starts-letter, starts-seq, starts-alt, starts-pipe}
 use Rattle.words.specs.Words.{part0, part1, part2, part3}
 use Rattle.rules.specs.declared.Watch.{Watch}
 use Rattle.monitor.specs.Counts.{countIn, keyIn, Counts, Tallied, tallied, andTally, keyOf, threadOf, askThread, askThreads, nextOf, touchLetter, touchIf, touchMarked, touchStarts}
@@ -64,47 +64,6 @@ some-letter (seq e f) = omega (arith, some-letter e)
 some-letter (alt e f) = omega (arith, some-letter e)
 some-letter (star e) = some-letter e
 some-letter (pipe e f) = omega (arith, some-letter e)
-
--- ---- which letters start a thread behind a part
-
-module _ (act : ℕ → Bool) where
-  -- a letter met that is a last one of e does, and if any does, there is one
-  start-from : (e : Exp) (n : ℕ) → T (act n) → T (last n e) → T (starts act e)
-  start-from e n a z =
-      let (l, i, p) = last-has n e z in
-      any-from (λ x. act (x .number) && last (x .number) e) i (subst (λ (m : ℕ). T (act m && last m e)) (sym p) (T-and (act n) (last n e) a z))
-
-  start-to : (e : Exp) → T (starts act e) → (n : ℕ) × T (act n) × T (last n e)
-  start-to e t =
-      let (x, i, u) = any-to (λ x. act (x .number) && last (x .number) e) (letters e) t in
-      let (a, z) = and-T (act (x .number)) (last (x .number) e) u in
-      (x .number, a, z)
-
-  -- a letter itself
-  starts-letter : (l : Letter) → starts act (letter l) ≡ act (l .number)
-  unfolding letters last
-  starts-letter l = same-truth (starts act (letter l)) (act (l .number))
-      (λ t. let (n, a, z) = start-to (letter l) t in subst (λ (m : ℕ). T (act m)) (eqb→eq n (l .number) z) a) (λ a. start-from (letter l) (l .number) a (eqb-refl (l .number)))
-
-  -- of a part z with the last letters of f, and those of e where g
-  starts-two : (z e f : Exp) (g : Bool) → ((n : ℕ) → last n z ≡ (last n f || (g && last n e))) → starts act z ≡ (starts act f || (g && starts act e))
-  starts-two z e f g h = same-truth (starts act z) (starts act f || (g && starts act e))
-      (λ t. let (n, a, y) = start-to z t in ⊎-elim
-      (λ u. T-or-left (starts act f) (g && starts act e) (start-from f n a u))
-      (λ u. let (v, w) = and-T g (last n e) u in T-or-right (starts act f) (g && starts act e) (T-and g (starts act e) v (start-from e n a w)))
-      (or-T (last n f) (g && last n e) (subst T (h n) y)))
-      (λ t. ⊎-elim
-      (λ u. let (n, a, y) = start-to f u in start-from z n a (subst T (sym (h n)) (T-or-left (last n f) (g && last n e) y)))
-      (λ u. let (v, w) = and-T g (starts act e) u in
-      let (n, a, y) = start-to e w in
-      start-from z n a (subst T (sym (h n)) (T-or-right (last n f) (g && last n e) (T-and g (last n e) v y))))
-      (or-T (starts act f) (g && starts act e) t))
-
-  -- of `@`, the left operand's do
-  starts-pipe : (e f : Exp) → starts act (pipe e f) ≡ starts act e
-  unfolding last
-  starts-pipe e f = same-truth (starts act (pipe e f)) (starts act e)
-      (λ t. let (n, a, z) = start-to (pipe e f) t in start-from e n a z) (λ t. let (n, a, z) = start-to e t in start-from (pipe e f) n a z)
 
 -- ---- asking the threads of a chain
 
@@ -368,11 +327,11 @@ module _ (t cs ps L marks : List ℕ) where
 
   -- two operands of z, where the left one's chain is cut unless g
   two : {d n : ℕ} (ch : Chain C d n) (g : Bool) (k q : ℕ) (z e f : Exp) (s : Bool) (A : List ℕ) (x y : ℕ) → k + (size e + size f) ≤ d → q ≤ k → Fresh k (size e + size f) A → flag A q ≡ s
-      → ((i : ℕ) → last i z ≡ (last i f || (g && last i e)))
+      → starts act z ≡ (starts act f || (g && starts act e))
       → (Fresh k (size e) A → Done C (cut C ch g) k (size e) A x (starts act e) (touchMarked C marks (size e) k A))
       → ((B : List ℕ) → length B ≡ 256 → Fresh (k + size e) (size f) B → flag B q ≡ s → Done C ch (k + size e) (size f) B y (starts act f) (touchMarked C marks (size f) (k + size e) B))
       → Done C ch k (size e + size f) A (x + y) (starts act z) (touchMarked C marks (size e + size f) k A)
-  two ch g k q z e f s A x y h i fr a lasts left right =
+  two ch g k q z e f s A x y h i fr a same left right =
       let a-letter = some-letter e in
       let T = touchMarked C marks (size e) k A in
       let D = uncut C ch g k (size e) A x (starts act e) T (left (λ j u v. fr j u (omega (arith, v)))) in
@@ -380,7 +339,7 @@ module _ (t cs ps L marks : List ℕ) where
       (λ j u v. kept C ch k (size e) A x (g && starts act e) T D j (inr (omega (arith, u))) (not-key C ch j (omega (arith, v, h))) ∙ fr j (omega (arith, u)) (omega (arith, v)))
       (kept C ch k (size e) A x (g && starts act e) T D q (inl i) (not-key C ch q (omega (arith, i, h, a-letter))) ∙ a) in
       as-done C ch k (size e + size f) A (x + y) (starts act f || (g && starts act e)) (starts act z) _ (touchMarked C marks (size e + size f) k A)
-      (sym (starts-two act z e f g lasts)) (sym (touch-split C marks (size e) (size f) k A))
+      (sym same) (sym (touch-split C marks (size e) (size f) k A))
       (both C ch k (size e) (size f) h A x y (g && starts act e) (starts act f) T (touchMarked C marks (size f) (k + size e) (T .asked)) D E)
 
   -- the letters of e, whose place is c, chain n and key q; s: the thread that it stands in is asked
@@ -395,12 +354,12 @@ module _ (t cs ps L marks : List ℕ) where
       (letter-done ch k w A m
       (left-letter r k c n q (letter l) A (S .0) (S .1) (omega (arith, i, few)) ∙ ap (λ (z : Bool). andTally (tallied (cond z (c .rest) (c .whole)) A) (askThreads C n n)) a)))
   touch d r k c n q (seq e f) s A ch S o few low up i m fr a =
-      two ch (nullable f) k q (seq e f) e f s A (sums act e (leftOfSeq e f c) s) (sums act f (rightOfSeq e f c) s) low i fr a (λ j. refl)
+      two ch (nullable f) k q (seq e f) e f s A (sums act e (leftOfSeq e f c) s) (sums act f (rightOfSeq e f c) s) low i fr a (starts-seq act e f)
       (λ g. touch d (suc r) k (leftOfSeq e f c) (cond (nullable f) n 0) q e s A (cut C ch (nullable f)) (S .1) (o .0) (omega (arith, few)) (omega (arith, low))
       (by-cond (λ (j : ℕ). j ≤ suc r) (nullable f) n 0 (λ z. omega (arith, up)) (λ z. omega arith)) i m g a)
       (λ B b g z. touch d (suc r + rows e) (k + size e) (rightOfSeq e f c) n q f s B ch (S .2) (o .1) (omega (arith, few)) (omega (arith, low)) (omega (arith, up)) (omega (arith, i)) b g z)
   touch d r k c n q (alt e f) s A ch S o few low up i m fr a =
-      two ch true k q (alt e f) e f s A (sums act e (sideOfAlt e c) s) (sums act f (sideOfAlt f c) s) low i fr a (λ j. or-comm (last j e) (last j f))
+      two ch true k q (alt e f) e f s A (sums act e (sideOfAlt e c) s) (sums act f (sideOfAlt f c) s) low i fr a (starts-alt act e f ∙ or-comm (starts act e) (starts act f))
       (λ g. touch d (suc r) k (sideOfAlt e c) n q e s A ch (S .1) (o .0) (omega (arith, few)) (omega (arith, low)) (omega (arith, up)) i m g a)
       (λ B b g z. touch d (suc r + rows e) (k + size e) (sideOfAlt f c) n q f s B ch (S .2) (o .1) (omega (arith, few)) (omega (arith, low)) (omega (arith, up)) (omega (arith, i)) b g z)
   touch d r k c n q (star e) s A ch S o few low up i m fr a = touch d (suc r) k (bodyOfStar e c) n q e s A ch (S .1) o few low (omega (arith, up)) i m fr a

@@ -61,7 +61,7 @@ module _ (K : List ℕ) (i l : ℕ) (m : Exp) (o : Ordered 0 m) (ac : Accepted m
   spent-few ns ks e same s =
       let p = ap (spentAfter (marked K)) (renumbered-shifted l l 0 m (omega arith) o) ∙ spent-after-shifted l (marked K) m
       ∙ spent-same (λ n. marked K (l + n)) (λ n. member n ns) m (ownPlace m) 0 (same-met K l m o ns e) in
-      let q = subst (λ (act : ℕ → Bool). spentAfter act m ≤ 3 * sumsAfter act m) (fun-ext same) (spent-most m (ac .solid .1) (ac .solid .0) (ac .numbered) ks s) in
+      let q = subst (λ (act : ℕ → Bool). spentAfter act m ≤ 3 * sumsAfter act m) (fun-ext same) (spent-most m (ac .solid .1) (ac .numbered) ks s) in
       omega (arith, p, q)
 
   -- at its start it is asked, otherwise it spends

@@ -1,4 +1,5 @@
-// How many rows asking and leaving each row touches, laid out once for many ticks (specs/Counts.antt).
+// How many rows asking and leaving each row touches, laid out once for many ticks (specs/Counts.antt). A thread has one letter met
+// at a time (F17), so what the letters met touch overlaps nowhere but with the start of their own thread, and can be added up.
 use super::letters::value_at;
 use super::positions::least;
 use rules::Watch;
@@ -14,14 +15,17 @@ ghost use lib.Dec.{eqb};
 ghost use Rattle.words.specs.Words.{part0};
 ghost use Rattle.monitor.specs.Counts.{cost, countIn, nullableIn, seqCost, altCost, costOf, rowCost, costsDown, beginsIn, fresh, leftOfSeq, rightOfSeq, onlyOperand, bodyOfStar, operandPlace, sibling, rowPlace, placesUp, countsOf};
 
-// Each row's place, what leaving it touches; and its cost, what asking it touches.
+// Each row's place, a word of four numbers: what leaving it touches in its thread, and that without what starting the thread
+// touches too; one more than the row of the first `@` whose thread is then asked, or 0; and twice the thread's key, its first
+// letter, one more where starting the thread asks the row. And each row's cost: what asking it touches, twice, one more where it is
+// nullable.
 pub(crate) const PLACES: usize = 0;
 
 pub(crate) const COSTS: usize = 1;
 
 // ---- costs
 
-// So many touches twice, and one more where the row is nullable.
+// The cost of a row: 2 * touches, and 1 more if it is nullable.
 fn cost(touches: usize, nullable: bool) -> u64
     requires { ⌜ touches < 131072 ⌝ }
     ensures { λ r. ⌜ r ≡ cost touches nullable ⌝ }
@@ -129,7 +133,7 @@ fn begins_in(place: u64) -> bool
     part3(place) % 2 != 0
 }
 
-// Leaving a row is a touch that starting the thread has not, unless that asks the row, which is nullable.
+// 0 if starting the thread asks the row and the row is nullable, for then it is left already; else 1.
 fn fresh(begins: bool, cost: u64) -> usize
     ensures { λ r. ⌜ r ≡ fresh begins cost ⌝ }
 {

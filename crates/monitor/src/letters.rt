@@ -26,7 +26,7 @@ fn link_value(link: u64, number: u64, word: u64) -> u64
     (word >> (part2(link) % 64)) & number
 }
 
-// A store's value; 0 where there is no such store.
+// A store's value, or an entry of a table; 0 where there is none.
 pub(crate) fn value_at(values: &[u64], store: usize) -> u64
     ensures { λ r. ⌜ r ≡ getD (now (values .entry)) store 0 ⌝ }
 {

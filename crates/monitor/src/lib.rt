@@ -1,6 +1,6 @@
-// The watch at work: `look` answers what a word would come to, and `take` answers the same and gives the watch that it moved on
-// to. For loops, which must not copy a watch, `tables_of` lays its tables out once; `refused_by`, `peek` or `step` on them, and
-// `is_bad` are what a look or a take is made of.
+// The watch at work: `look` answers what a word would come to, and `take` answers the same, tells how many rows the tick touched,
+// and gives the watch that it moved on to. For loops, which must not copy a watch, `tables_of` and `counts_of` lay out once what
+// the ticks need; `refused_by`, `peek` or `step`, `is_bad` and `touched` are what a look or a take is made of.
 // What they answer is said for every watch, also one that no call ever gave (specs/Calls.antt, specs/Ticks.antt).
 mod busy;
 mod counts;

@@ -36,7 +36,7 @@ fn key_of(place: u64) -> usize
     part3(place) / 2 % 256
 }
 
-// The thread of the `@` in a row is asked: what that touches, unless it was asked before.
+// The thread of the `@` in a row is asked: what that touches, unless it was asked before, as on no accepted text.
 fn ask_thread(
     row: usize,
     tables: &[[u64; 1024]; 4],
