@@ -1,10 +1,10 @@
--- Facts about `&&`, `||` and the test of equality.
+-- Facts about `&&`, `||`, choices and the test of equality.
 -- Assumes nothing.
 use mathlib.Core.Path.{_≡_, refl, sym, _∙_}
 use Prim.Native.Nat.{ℕ}
 use lib.Dec.{eqb}
 use borrow.Author.Tests.{eqb-true, eqb-false, eq-eqb, ne-eqb}
-use mathlib.Core.Bool.{Bool, true, false, _&&_, _||_, false≢true, true≢false}
+use mathlib.Core.Bool.{Bool, true, false, cond, _&&_, _||_, false≢true, true≢false}
 
 pub and-left : (a b : Bool) → a && b ≡ true → a ≡ true
 and-left true b e = refl
@@ -37,6 +37,25 @@ or-right false b e = e
 pub not-true : (t : Bool) → (t ≡ true → ⊥) → t ≡ false
 not-true true h = absurd (h refl)
 not-true false h = refl
+
+-- by what the first test gives
+pub taken : {A : Type 0} (b : Bool) (x y : A) → b ≡ true → cond b x y ≡ x
+taken b x y e = rw e refl
+
+pub left : {A : Type 0} (b : Bool) (x y : A) → b ≡ false → cond b x y ≡ y
+left b x y e = rw e refl
+
+pub either : (a b : Bool) → a ≡ true → true ≡ (a || b)
+either a b e = rw e refl
+
+pub other : (a b : Bool) → a ≡ false → b ≡ (a || b)
+other a b e = rw e refl
+
+pub neither : (a b : Bool) → a ≡ false → false ≡ (a && b)
+neither a b e = rw e refl
+
+pub both : (a b : Bool) → a ≡ true → b ≡ (a && b)
+both a b e = rw e refl
 
 pub eqb-sym : (m n : ℕ) → eqb m n ≡ eqb n m
 eqb-sym m n = go (eqb n m) refl

@@ -1,5 +1,5 @@
 -- The lexer's lemmas: the first group serves its functions, the second holds the laws of tokens, which Laws lists.
--- what follows from `&&`, `||`, `not` and the test of equality being true or false
+-- what follows from `&&`, `||`, `not`, a choice and the test of equality being true or false
 pub mod Bools
 -- what a test over all numbers below a bound computes holds at each of them
 pub mod Every

@@ -27,9 +27,9 @@ use Rattle.words.specs.Words.{quad, part0, part1, part2, part3}
 use Rattle.words.proofs.Quads.{quad-0, quad-1, quad-2, quad-3}
 use Rattle.rules.specs.Laying.{kindCode, leftCode}
 use Rattle.rules.specs.Watches.{watchOf}
-use Rattle.monitor.specs.Counts.{cost, countIn, nullableIn, seqCost, altCost, costOf, rowCost, costsDown, costsOf}
-use Rattle.monitor.specs.Counts.{operandPlace, sibling, rowPlace, ownOfMonitor, ownOfThread, onlyOperand, lettersBefore, placesUp}
-use Rattle.monitor.specs.Counts.{leftOfSeq as leftWord, rightOfSeq as rightWord, bodyOfStar as bodyWord}
+use Rattle.counts.specs.Counts.{cost, countIn, nullableIn, seqCost, altCost, costOf, rowCost, costsDown, costsOf}
+use Rattle.counts.specs.Counts.{operandPlace, sibling, rowPlace, ownOfMonitor, ownOfThread, onlyOperand, lettersBefore, placesUp}
+use Rattle.counts.specs.Counts.{leftOfSeq as leftWord, rightOfSeq as rightWord, bodyOfStar as bodyWord}
 use Rattle.monitor.proofs.Stored.{stands-self, front, rear}
 use Rattle.monitor.proofs.Numbered.{programOf, InOrder}
 use Rattle.monitor.proofs.RowWords.{wordOf, laid-up}

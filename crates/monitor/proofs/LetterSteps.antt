@@ -1,34 +1,15 @@
 -- A letter at a tick, by the code's branches: whether it is met, and what it writes. Assumes nothing.
-use mathlib.Core.Path.{_≡_, refl, sym, _∙_, ap, ap₂}
-use mathlib.Core.Bool.{Bool, true, false, cond, _&&_, _||_}
+use mathlib.Core.Path.{_≡_, sym, _∙_, ap, ap₂}
+use mathlib.Core.Bool.{Bool, true, false}
 use mathlib.Core.List.{List}
 use Prim.Native.Nat.{ℕ, _+_, _*_, _/_, _%_, _^_}
 use borrow.Author.Tests.{eq-eqb, ne-eqb}
 use lib.Dec.{eqb}
 use lib.Bits.{bitAnd}
 use lib.ListN.{getD, set}
+use Rattle.lexer.proofs.Bools.{taken, left, either, other, neither, both}
 use Rattle.words.specs.Words.{part0, part1, part2}
 use Rattle.monitor.specs.Letters.{Given, linkValue, testMet, wiresMet, pastMet, letterMet, writeSlot, writeLetter}
-
--- ---- choices
-
-pub taken : {A : Type 0} (b : Bool) (x y : A) → b ≡ true → cond b x y ≡ x
-taken b x y e = rw e refl
-
-pub left : {A : Type 0} (b : Bool) (x y : A) → b ≡ false → cond b x y ≡ y
-left b x y e = rw e refl
-
-pub either : (a b : Bool) → a ≡ true → true ≡ (a || b)
-either a b e = rw e refl
-
-pub other : (a b : Bool) → a ≡ false → b ≡ (a || b)
-other a b e = rw e refl
-
-pub neither : (a b : Bool) → a ≡ false → false ≡ (a && b)
-neither a b e = rw e refl
-
-pub both : (a b : Bool) → a ≡ true → b ≡ (a && b)
-both a b e = rw e refl
 
 -- ---- a link's value
 

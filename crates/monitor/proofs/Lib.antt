@@ -25,8 +25,6 @@ mod LetterSteps
 mod Marked
 -- the thread of each letter, by the branches and the loop of the code
 mod ThreadSteps
--- how many rows asking and leaving each row touches, by the branches and the loops of the code
-mod CountSteps
 -- how many rows a tick touches, by the branches and the loops of the code
 mod TallySteps
 -- behind the last letter that writes nothing is written; the word of the tables that has the numbers of letters to be looked at

@@ -9,9 +9,9 @@ use lib.Dec.{eqb, ltb}
 use lib.Bits.{bitOr, or-add-and, and-le-l, and-le-r}
 use lib.ListN.{getD, length, take, drop, replicate, set, getD-replicate, List·getD-eq-default}
 use lib.Seq.{sets, getD-drop, getD-set-other, set-getD, take-all}
+use Rattle.lexer.proofs.Bools.{taken, left}
 use Rattle.rules.proofs.Starting.{values-more}
 use Rattle.monitor.specs.Ticks.{firstMarked, ifMarked, eachMarked, marksAfter}
-use Rattle.monitor.proofs.LetterSteps.{taken, left}
 
 -- ---- eight at once
 

@@ -7,10 +7,11 @@ use native.Mathlib.Omega.{arith}
 use borrow.Author.Tests.{eq-eqb, ne-eqb, lt-ltb, le-ltb}
 use lib.Dec.{eqb, ltb}
 use lib.ListN.{getD, set, replicate}
+use Rattle.lexer.proofs.Bools.{taken, left}
 use Rattle.words.specs.Words.{part0, part1, part2}
+use Rattle.counts.specs.Counts.{countIn, keyIn}
 use Rattle.monitor.specs.Ticks.{firstMarked}
-use Rattle.monitor.specs.Counts.{countIn, keyIn, Counts, Tallied, tallied, andTally, keyOf, threadOf, askThread, nextOf, askThreads, placeOf, touchLetter, touchIf, touchMarked, touchStarts, touchedOf}
-use Rattle.monitor.proofs.LetterSteps.{taken, left}
+use Rattle.monitor.specs.Tally.{Counts, Tallied, tallied, andTally, keyOf, threadOf, askThread, nextOf, askThreads, placeOf, touchLetter, touchIf, touchMarked, touchStarts, touchedOf}
 use Rattle.monitor.proofs.Marked.{to-first, at-first}
 
 -- ---- numbers added up, of which 65,535 is the largest that is told

@@ -7,9 +7,9 @@ use native.Mathlib.Omega.{arith}
 use borrow.Author.Tests.{lt-ltb, le-ltb, eq-eqb, ne-eqb}
 use lib.Dec.{eqb, ltb}
 use lib.ListN.{getD, set}
+use Rattle.lexer.proofs.Bools.{taken, left}
 use Rattle.words.specs.Words.{part0, part1}
 use Rattle.monitor.specs.Threads.{goingOn, operandNumber, upOf, rowNumber, rowNumbers, threadOf, withThread, threadsFrom}
-use Rattle.monitor.proofs.LetterSteps.{taken, left}
 
 -- ---- the number of an operand's row, by the kind k and the left operand l of the row above
 

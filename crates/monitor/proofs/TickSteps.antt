@@ -10,18 +10,19 @@ use lib.Dec.{eqb, leb, ltb}
 use lib.ListN.{getD, set}
 use lib.Pow.{pow-pos, pow-mono}
 use lib.Seq.{set-getD}
+use Rattle.lexer.proofs.Bools.{taken, left}
 use Rattle.meaning.specs.Fit.{ok as clean, bad as broken}
 use Rattle.meaning.specs.Calls.{Reply, refused, isStray, isFull, reply, after, replyOf as verdictReply, touchedBy}
 use Rattle.words.specs.Words.{part1}
+use Rattle.counts.specs.Counts.{countsOf}
 use Rattle.monitor.specs.Letters.{Given, given, threaded, unthreaded}
 use Rattle.monitor.specs.Walk.{Told, told, askM, leaveM}
 use Rattle.monitor.specs.Ticks.{steps, Layout, layout, firstMarked, ifMarked, eachMarked, shutRow, shutCode, shutFor, shutBusy, andThen, letterGoes, lettersGo, startGoes, lettersEnd, monitorGoes, Reached, reached, reachedBy, monitorsGo, marksAfter, writeMarked, writers, Move, move, emptyMemory, moveBy, stepWithin, stepOf, within, stuckAt}
 use Rattle.rules.specs.declared.Watch.{Watch}
-use Rattle.monitor.specs.Counts.{counts, countsOf, touchedOf}
+use Rattle.monitor.specs.Tally.{counts, touchedOf}
 use Rattle.monitor.specs.Calls.{Moving, tablesOf, withState, refusedBy, stateOf, judge, onward, stepFrom, layoutOf, replyOf, touchedOn, touchedFor, watchAfter}
 use Rattle.monitor.specs.Shown.{shownAnswer}
 use Rattle.monitor.specs.declared.Answer.the-variants.{Ok, Bad, Refused}
-use Rattle.monitor.proofs.LetterSteps.{taken, left}
 use Rattle.monitor.proofs.Marked.{each-split, to-first}
 
 -- ---- what is done for marked letters; f is what is done for one

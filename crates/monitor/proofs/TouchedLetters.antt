@@ -18,7 +18,8 @@ use Rattle.meaning.proofs.Counting.{Place, askedCount, leftOfSeq, rightOfSeq, s
 use Rattle.meaning.proofs.Levels.{starts-letter, starts-seq, starts-alt, starts-pipe}
 use Rattle.words.specs.Words.{part0, part1, part2, part3}
 use Rattle.rules.specs.declared.Watch.{Watch}
-use Rattle.monitor.specs.Counts.{countIn, keyIn, Counts, Tallied, tallied, andTally, keyOf, threadOf, askThread, askThreads, nextOf, touchLetter, touchIf, touchMarked, touchStarts}
+use Rattle.counts.specs.Counts.{countIn, keyIn}
+use Rattle.monitor.specs.Tally.{Counts, Tallied, tallied, andTally, keyOf, threadOf, askThread, askThreads, nextOf, touchLetter, touchIf, touchMarked, touchStarts}
 use Rattle.monitor.proofs.Numbered.{InOrder}
 use Rattle.monitor.proofs.Padded.{zeros-at}
 use Rattle.monitor.proofs.Program.{LaidFrom}

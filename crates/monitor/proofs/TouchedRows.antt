@@ -30,7 +30,8 @@ use Rattle.meaning.proofs.Calls.{replies-rightly}
 use Rattle.meaning.proofs.Openings.{machine-stands, all-read, all-accepted}
 use Rattle.rules.specs.Watches.{watchOf}
 use Rattle.rules.specs.declared.Watch.{Watch}
-use Rattle.monitor.specs.Counts.{counts, costsOf, placesUp, countsOf, touchedOf}
+use Rattle.counts.specs.Counts.{costsOf, placesUp, countsOf}
+use Rattle.monitor.specs.Tally.{counts, touchedOf}
 use Rattle.monitor.specs.Calls.{replyOf, touchedOn, answerOf, answersOf, repliesOf, watchAfterCall, watchAfterAll}
 use Rattle.monitor.proofs.Going.{markedFrom, MarksAre}
 use Rattle.monitor.proofs.Moves.{in-shift, to-member, from-member, MarksAll}

@@ -34,8 +34,8 @@ use Rattle.meaning.proofs.Openings.{machine-stands, all-read, all-accepted}
 use Rattle.words.specs.Words.{part0}
 use Rattle.rules.specs.Watches.{watchOf}
 use Rattle.rules.specs.declared.Watch.{Watch}
+use Rattle.counts.specs.Counts.{nullableIn, costsDown}
 use Rattle.monitor.specs.Letters.{Given}
-use Rattle.monitor.specs.Counts.{nullableIn, costsDown}
 use Rattle.monitor.specs.Ticks.{Layout, within, monitorGoes, shutBusy, emptyMemory}
 use Rattle.monitor.specs.Visits.{monitorsVisits, visitsWithin}
 use Rattle.monitor.specs.Calls.{givenOf, layoutOf, visitsOn, watchAfterAll}

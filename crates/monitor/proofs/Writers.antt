@@ -8,7 +8,7 @@ use borrow.Author.Tests.{eq-eqb, ne-eqb, eqb-true, eqb-false}
 use lib.Dec.{eqb}
 use lib.ListN.{getD, length, replicate, length-replicate}
 use lib.Seq.{sets, getD-set-same, length-sets}
-use Rattle.lexer.proofs.Bools.{and-left, and-right}
+use Rattle.lexer.proofs.Bools.{and-left, and-right, neither, both}
 use Rattle.words.specs.Words.{quad, part1}
 use Rattle.words.proofs.Quads.{quad-1}
 use Rattle.rules.specs.declared.Watch.{Watch}
@@ -16,7 +16,7 @@ use Rattle.monitor.specs.Letters.{Given, writeLetter}
 use Rattle.monitor.specs.Ticks.{eachMarked, writeIf, writeMarked, writers}
 use Rattle.monitor.specs.Threads.{threadsOf}
 use Rattle.monitor.specs.Calls.{upTo, writersOf, threadedOf, unthreadedOf, givenOf}
-use Rattle.monitor.proofs.LetterSteps.{neither, both, no-write}
+use Rattle.monitor.proofs.LetterSteps.{no-write}
 use Rattle.monitor.proofs.Marked.{each-split}
 
 -- ---- the last letter that is not idle

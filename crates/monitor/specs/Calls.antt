@@ -11,9 +11,10 @@ use Rattle.meaning.specs.Fit.{Verdict, History}
 use Rattle.meaning.specs.Calls.{Call, look, take, wordOf, Reply, isFull, isStray, State, reply, after, touchedBy, Answer, looked, took}
 use Rattle.words.specs.Words.{quad}
 use Rattle.rules.specs.declared.Watch.{Watch}
+use Rattle.counts.specs.Counts.{countsOf}
 use Rattle.monitor.specs.Letters.{Given, given}
 use Rattle.monitor.specs.Threads.{threadsOf}
-use Rattle.monitor.specs.Counts.{counts, countsOf, touchedOf}
+use Rattle.monitor.specs.Tally.{counts, touchedOf}
 use Rattle.monitor.specs.Ticks.{Layout, layout, within, firstMarked, Move, stepOf, verdictOf}
 use Rattle.monitor.specs.Visits.{visitsWithin}
 

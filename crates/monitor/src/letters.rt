@@ -10,10 +10,11 @@ use masks::passes;
 use words::part0;
 use words::part1;
 use words::part2;
+use words::word_at;
 ghost use mathlib.Core.Path.{_≡_};
 ghost use mathlib.Core.List.{List};
 ghost use Prim.Native.Nat.{ℕ, _<_};
-ghost use lib.ListN.{getD, set};
+ghost use lib.ListN.{set};
 ghost use Rattle.monitor.specs.Letters.{given, linkValue, testMet, letterMet, writeSlot, writeLetter};
 
 // What a link's store is compared with, or what is written there.
@@ -26,16 +27,6 @@ fn link_value(link: u64, number: u64, word: u64) -> u64
     (word >> (part2(link) % 64)) & number
 }
 
-// A store's value, or an entry of a table; 0 where there is none.
-pub(crate) fn value_at(values: &[u64], store: usize) -> u64
-    ensures { λ r. ⌜ r ≡ getD (now (values .entry)) store 0 ⌝ }
-{
-    if store < values.len() {
-        return values[store];
-    }
-    0
-}
-
 // Whether the store test in a slot is met, or there is none.
 fn test_met(slot: usize, words: &[u64; 2], tables: &[[u64; 1024]; 4], values: &[u64; 16]) -> bool
     requires { ⌜ slot < 1024 ⌝ }
@@ -45,7 +36,7 @@ fn test_met(slot: usize, words: &[u64; 2], tables: &[[u64; 1024]; 4], values: &[
     if link == 0 {
         return true;
     }
-    value_at(values, part0(link)) == link_value(link, tables[NUMBERS][slot], words[WORD])
+    word_at(values, part0(link)) == link_value(link, tables[NUMBERS][slot], words[WORD])
 }
 
 // The letter test: wires, wires to be as before, and stores.

@@ -3,7 +3,6 @@
 // the ticks need; `refused_by`, `peek` or `step`, `is_bad` and `touched` are what a look or a take is made of.
 // What they answer is said for every watch, also one that no call ever gave (specs/Calls.antt, specs/Ticks.antt).
 mod busy;
-mod counts;
 mod letters;
 mod marks;
 mod positions;
@@ -17,13 +16,13 @@ pub use counts::counts_of;
 use letters::write_letter;
 use marks::first_marked;
 use marks::put_marks;
-use positions::least;
 use positions::monitors_go;
 use rules::Watch;
 use tables::LETTERS;
 use tables::THREADS;
 pub use tables::tables_of;
 pub use tally::touched;
+use words::least;
 use words::part1;
 use words::part2;
 use words::part3;

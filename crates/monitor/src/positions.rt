@@ -2,24 +2,15 @@
 use super::marks::first_marked;
 use super::walk::ask;
 use super::walk::leave;
+use words::least;
 ghost use mathlib.Core.Path.{_≡_};
-ghost use Prim.Native.Nat.{_-_, _<_, _≤_, min};
+ghost use Prim.Native.Nat.{_-_, _<_, _≤_};
 ghost use Rattle.monitor.specs.Letters.{given};
 ghost use Rattle.monitor.specs.Walk.{told};
 ghost use Rattle.monitor.specs.Ticks.{layout, letterGoes, lettersGo, startGoes, lettersEnd, monitorGoes, reached, monitorsGo};
 
 // 4 calls for each row are enough.
 const STEPS: usize = 4096;
-
-// The smaller of two numbers.
-pub(crate) fn least(a: usize, b: usize) -> usize
-    ensures { λ r. ⌜ r ≡ min a b ⌝ }
-{
-    if a <= b {
-        return a;
-    }
-    b
-}
 
 pub(crate) fn wide(x: u16) -> usize
     ensures { λ r. ⌜ r ≡ x ⌝ }

@@ -1,22 +1,22 @@
-// How many rows a tick touches, by the letters met at the tick before and the monitors that are at their start (specs/Counts.antt).
-use super::counts::COSTS;
-use super::counts::PLACES;
-use super::counts::count_in;
-use super::letters::value_at;
+// How many rows a tick touches, by the letters met at the tick before and the monitors that are at their start (specs/Tally.antt).
 use super::marks::first_marked;
-use super::positions::least;
 use super::positions::wide;
 use super::tables::ROWS;
+use counts::COSTS;
+use counts::PLACES;
+use counts::count_in;
+use words::least;
 use words::part0;
 use words::part1;
 use words::part2;
 use words::part3;
+use words::word_at;
 ghost use mathlib.Core.Path.{_≡_};
 ghost use mathlib.Core.List.{List, []};
 ghost use Prim.Native.Nat.{ℕ, _+_, _/_, _%_, _<_, _≤_, min};
 ghost use lib.ListN.{getD};
 ghost use Rattle.words.specs.Words as word;
-ghost use Rattle.monitor.specs.Counts.{counts as countsFrom, tallied, askThread, askThreads, touchLetter, touchMarked, touchStarts, touchedOf};
+ghost use Rattle.monitor.specs.Tally.{counts as countsFrom, tallied, askThread, askThreads, touchLetter, touchMarked, touchStarts, touchedOf};
 
 // The largest number that is told. No accepted text touches as many rows.
 const MOST: usize = 65535;
@@ -45,13 +45,13 @@ fn ask_thread(
 ) -> usize
     ensures { λ r. ⌜ ((L : List ℕ) → tallied r (now (asked .exit)) ≡ askThread (countsFrom (getD (now (tables .entry)) 0 []) (now (counts .entry)) L) row (now (asked .entry))) ⌝ }
 {
-    let thread = part2(value_at(&tables[ROWS], row));
-    let key = key_of(value_at(&counts[PLACES], thread));
+    let thread = part2(word_at(&tables[ROWS], row));
+    let key = key_of(word_at(&counts[PLACES], thread));
     if asked[key] != 0 {
         return 0;
     }
     asked[key] = 1;
-    count_in(value_at(&counts[COSTS], thread))
+    count_in(word_at(&counts[COSTS], thread))
 }
 
 // The threads of a chain, each of an `@` further up. The chain is told by one more than a row, or 0.
@@ -68,7 +68,7 @@ fn ask_threads(
     while 0 < chain {
         let row = chain - 1;
         count = more(count, ask_thread(row, tables, counts, asked));
-        let next = part2(value_at(&counts[PLACES], row));
+        let next = part2(word_at(&counts[PLACES], row));
         if chain <= next {
             return count;
         }
@@ -77,18 +77,18 @@ fn ask_threads(
     count
 }
 
-// A letter was met at the tick before: its row is left.
+// A letter was met at the tick before: its row, which `rows` has, is left.
 fn touch_letter(
     letter: usize,
-    places: &[u16; 256],
+    rows: &[u16; 256],
     tables: &[[u64; 1024]; 4],
     counts: &[[u64; 1024]; 2],
     asked: &mut [u8; 256],
 ) -> usize
     requires { ⌜ letter < 256 ⌝ }
-    ensures { λ r. ⌜ (now (asked .exit) ≡ touchLetter (countsFrom (getD (now (tables .entry)) 0 []) (now (counts .entry)) (now (places .entry))) letter (now (asked .entry)) .asked) × (r ≡ min (touchLetter (countsFrom (getD (now (tables .entry)) 0 []) (now (counts .entry)) (now (places .entry))) letter (now (asked .entry)) .count) 65535) ⌝ }
+    ensures { λ r. ⌜ (now (asked .exit) ≡ touchLetter (countsFrom (getD (now (tables .entry)) 0 []) (now (counts .entry)) (now (rows .entry))) letter (now (asked .entry)) .asked) × (r ≡ min (touchLetter (countsFrom (getD (now (tables .entry)) 0 []) (now (counts .entry)) (now (rows .entry))) letter (now (asked .entry)) .count) 65535) ⌝ }
 {
-    let place = value_at(&counts[PLACES], wide(places[letter]));
+    let place = word_at(&counts[PLACES], wide(rows[letter]));
     if asked[key_of(place)] != 0 {
         return more(
             part1(place),
@@ -105,18 +105,18 @@ fn touch_letter(
 fn touch_marked(
     letters: usize,
     marks: &[u8; 288],
-    places: &[u16; 256],
+    rows: &[u16; 256],
     tables: &[[u64; 1024]; 4],
     counts: &[[u64; 1024]; 2],
     asked: &mut [u8; 256],
 ) -> usize
     requires { ⌜ letters ≤ 256 ⌝ }
-    ensures { λ r. ⌜ r ≡ min (touchMarked (countsFrom (getD (now (tables .entry)) 0 []) (now (counts .entry)) (now (places .entry))) (now (marks .entry)) letters 0 (now (asked .entry)) .count) 65535 ⌝ }
+    ensures { λ r. ⌜ r ≡ min (touchMarked (countsFrom (getD (now (tables .entry)) 0 []) (now (counts .entry)) (now (rows .entry))) (now (marks .entry)) letters 0 (now (asked .entry)) .count) 65535 ⌝ }
 {
     let mut count: usize = 0;
     let mut letter = first_marked(marks, 0, letters);
     while letter < letters {
-        count = more(count, touch_letter(letter, places, tables, counts, asked));
+        count = more(count, touch_letter(letter, rows, tables, counts, asked));
         letter = first_marked(marks, letter + 1, letters);
     }
     count
@@ -135,7 +135,7 @@ fn touch_start(
     if marks[256 + monitor] == 0 {
         return 0;
     }
-    count_in(value_at(&counts[COSTS], wide(own[monitor])))
+    count_in(word_at(&counts[COSTS], wide(own[monitor])))
 }
 
 // The monitors that are at their start.
@@ -161,24 +161,17 @@ fn touch_starts(
 pub fn touched<'a>(
     tables: &'a [[u64; 1024]; 4],
     counts: &'a [[u64; 1024]; 2],
-    places: &'a [u16; 256],
+    rows: &'a [u16; 256],
     own: &'a [u16; 32],
     monitors: usize,
     letters: usize,
     marks: &'a [u8; 288],
 ) -> usize
-    ensures { λ r. ⌜ r ≡ min (touchedOf (countsFrom (getD (now (tables .entry)) 0 []) (now (counts .entry)) (now (places .entry))) (now (own .entry)) (now (marks .entry)) monitors letters) 65535 ⌝ }
+    ensures { λ r. ⌜ r ≡ min (touchedOf (countsFrom (getD (now (tables .entry)) 0 []) (now (counts .entry)) (now (rows .entry))) (now (own .entry)) (now (marks .entry)) monitors letters) 65535 ⌝ }
 {
     let mut asked = [0u8; 256];
     more(
         touch_starts(least(monitors, 32), marks, own, counts),
-        touch_marked(
-            least(letters, 256),
-            marks,
-            places,
-            tables,
-            counts,
-            &mut asked,
-        ),
+        touch_marked(least(letters, 256), marks, rows, tables, counts, &mut asked),
     )
 }

@@ -1,5 +1,5 @@
 // The thread that each letter goes on in, from the table's rows (specs/Threads.antt).
-use super::positions::least;
+use words::least;
 use words::part0;
 use words::part1;
 use words::part3;

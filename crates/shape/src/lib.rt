@@ -7,7 +7,6 @@ ghost use Rattle.shape.specs.Judge.{judgeOf, shownJudged};
 mod ends;
 mod sets;
 mod sides;
-mod table;
 
 // What the two rules answer: the letter at fault by its number in the monitor, or none.
 pub enum Judged {

@@ -58,6 +58,8 @@ use Rattle.rules.specs.Watches.{watchOf}
 use Rattle.rules.specs.declared.Watch.{Watch}
 use Rattle.rules.proofs.open.Statement as open-text
 use Rattle.rules.proofs.open.Met as open-text-met
+use Rattle.counts.proofs.counts_of.Statement as counts-of
+use Rattle.counts.proofs.counts_of.Met as counts-of-met
 use Rattle.monitor.specs.Calls.{replyOf, watchAfter, repliesOf, answersOf, watchAfterAll, visitsOn, Held}
 use Rattle.monitor.proofs.Program as program
 use Rattle.monitor.proofs.Calls as calls
@@ -70,8 +72,6 @@ use Rattle.monitor.proofs.step.Statement as step
 use Rattle.monitor.proofs.step.Met as step-met
 use Rattle.monitor.proofs.tables_of.Statement as tables-of
 use Rattle.monitor.proofs.tables_of.Met as tables-of-met
-use Rattle.monitor.proofs.counts_of.Statement as counts-of
-use Rattle.monitor.proofs.counts_of.Met as counts-of-met
 use Rattle.monitor.proofs.touched.Statement as touched-by
 use Rattle.monitor.proofs.touched.Met as touched-by-met
 use Rattle.monitor.proofs.is_bad.Statement as is-bad

@@ -3,7 +3,7 @@
 use mathlib.Core.Path.{sym}
 use lib.Dec.{eqb}
 use borrow.Author.Tests.{eq-eqb, ne-eqb}
-use Rattle.monitor.proofs.LetterSteps.{taken, left}
+use Rattle.lexer.proofs.Bools.{taken, left}
 use Rattle.monitor.proofs.busy.shut_code.Statement.{statement}
 use Rattle.monitor.proofs.busy.shut_code.Tie as tie
 

@@ -23,4 +23,4 @@ test-met-spec =
     (λ c κs. search needs)
     (λ c.
     let a = c .before .before .before .before .before .before .before .before .args in
-    the-test (given (a .tables .now) (a .values .now) (a .words .now)) (a .slot) (c .before .before .before .before .before .before .if1 .left) _ _ (c .before .before .before .before .part0 .ensures) (c .link-value .ensures) _ (c .before .before .before .value-at .ensures)))
+    the-test (given (a .tables .now) (a .values .now) (a .words .now)) (a .slot) (c .before .before .before .before .before .before .if1 .left) _ _ (c .before .before .before .before .part0 .ensures) (c .link-value .ensures) _ (c .before .before .before .word-at .ensures)))

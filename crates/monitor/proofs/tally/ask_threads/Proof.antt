@@ -5,7 +5,7 @@ use Prim.Native.Nat.{ℕ}
 use borrow.Author.Needs.{needs}
 use native.Mathlib.Omega.{arith}
 use lib.ListN.{getD}
-use Rattle.monitor.specs.Counts.{counts, askThreads}
+use Rattle.monitor.specs.Tally.{counts, askThreads}
 use Rattle.monitor.proofs.TallySteps.{Chained, thread-few, chain-first, chain-few, chain-next, chain-cut, chain-end}
 use Rattle.monitor.proofs.tally.ask_threads.Statement.{statement}
 use Rattle.monitor.proofs.tally.ask_threads.Tie as tie
@@ -42,7 +42,7 @@ ask-threads-spec =
     let l = s .loop in
     let a = s .before .args in
     let n = counts (getD (a .tables .now) 0 []) (a .counts .now) L in
-    chain-cut n (askThreads n (a .first) (a .first) (a .asked .now)) (l .count) (l .chain) (l .asked) _ _ _ _ _ (omega arith) (m .before .ask-thread .ensures L) (m .more .ensures) (v .value-at .ensures) (c .before .part2 .ensures) (omega arith) (l .inv L))
+    chain-cut n (askThreads n (a .first) (a .first) (a .asked .now)) (l .count) (l .chain) (l .asked) _ _ _ _ _ (omega arith) (m .before .ask-thread .ensures L) (m .more .ensures) (v .word-at .ensures) (c .before .part2 .ensures) (omega arith) (l .inv L))
     (λ c. omega arith)
     (λ c L.
     let v = c .before .before in
@@ -51,7 +51,7 @@ ask-threads-spec =
     let l = s .loop in
     let a = s .before .args in
     let n = counts (getD (a .tables .now) 0 []) (a .counts .now) L in
-    chain-next n (askThreads n (a .first) (a .first) (a .asked .now)) (l .count) (l .chain) (l .asked) _ _ _ _ _ (omega arith) (m .before .ask-thread .ensures L) (m .more .ensures) (v .value-at .ensures) (c .before .part2 .ensures) (omega arith) (l .inv L))
+    chain-next n (askThreads n (a .first) (a .first) (a .asked .now)) (l .count) (l .chain) (l .asked) _ _ _ _ _ (omega arith) (m .before .ask-thread .ensures L) (m .more .ensures) (v .word-at .ensures) (c .before .part2 .ensures) (omega arith) (l .inv L))
     (λ c L.
     let l = c .before .loop in
     let a = c .before .before .args in

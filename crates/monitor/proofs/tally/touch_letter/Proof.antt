@@ -4,7 +4,7 @@ use mathlib.Core.List.{[]}
 use borrow.Author.Needs.{needs}
 use native.Mathlib.Omega.{arith}
 use lib.ListN.{getD}
-use Rattle.monitor.specs.Counts.{counts}
+use Rattle.monitor.specs.Tally.{counts}
 use Rattle.monitor.proofs.TallySteps.{letter-behind, letter-alone}
 use Rattle.monitor.proofs.tally.touch_letter.Statement.{statement}
 use Rattle.monitor.proofs.tally.touch_letter.Tie as tie
@@ -31,7 +31,7 @@ touch-letter-spec =
     let k = e .before .before in
     let w = k .before .before in
     let a = w .before .before .before .before .args in
-    letter-behind (counts (getD (a .tables .now) 0 []) (a .counts .now) (a .places .now)) (a .letter) _ _ _ _ _ _ _ (a .asked .now) _ (w .wide .ensures) (k .before .value-at .ensures) (k .key-of .ensures) (p .part2 .ensures) (t .ask-threads .ensures (a .places .now)) (c .more .ensures) (e .if1 .taken) (p .before .part1 .ensures))
+    letter-behind (counts (getD (a .tables .now) 0 []) (a .counts .now) (a .rows .now)) (a .letter) _ _ _ _ _ _ _ (a .asked .now) _ (w .wide .ensures) (k .before .word-at .ensures) (k .key-of .ensures) (p .part2 .ensures) (t .ask-threads .ensures (a .rows .now)) (c .more .ensures) (e .if1 .taken) (p .before .part1 .ensures))
     (λ c κs. search needs)
     (λ c κs. search needs)
     (λ c κs. search needs)
@@ -43,4 +43,4 @@ touch-letter-spec =
     let k = e .before .before in
     let w = k .before .before in
     let a = w .before .before .before .before .args in
-    letter-alone (counts (getD (a .tables .now) 0 []) (a .counts .now) (a .places .now)) (a .letter) _ _ _ _ _ _ _ (a .asked .now) _ (w .wide .ensures) (k .before .value-at .ensures) (k .key-of .ensures) (p .part22 .ensures) (t .ask-threads2 .ensures (a .places .now)) (c .more2 .ensures) (e .if1 .left) (p .before .part0 .ensures)))
+    letter-alone (counts (getD (a .tables .now) 0 []) (a .counts .now) (a .rows .now)) (a .letter) _ _ _ _ _ _ _ (a .asked .now) _ (w .wide .ensures) (k .before .word-at .ensures) (k .key-of .ensures) (p .part22 .ensures) (t .ask-threads2 .ensures (a .rows .now)) (c .more2 .ensures) (e .if1 .left) (p .before .part0 .ensures)))

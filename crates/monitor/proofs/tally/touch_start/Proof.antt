@@ -1,7 +1,7 @@
 -- `monitor::tally::touch_start` meets its contract.
 -- Assumes nothing.
 use borrow.Author.Needs.{needs}
-use Rattle.monitor.specs.Counts.{counts}
+use Rattle.monitor.specs.Tally.{counts}
 use Rattle.monitor.proofs.TallySteps.{not-at-start, at-start}
 use Rattle.monitor.proofs.tally.touch_start.Statement.{statement}
 use Rattle.monitor.proofs.tally.touch_start.Tie as tie
@@ -23,4 +23,4 @@ touch-start-spec =
     let w = c .before .before in
     let e = w .before .before .before .before in
     let a = e .before .before .args in
-    at-start (counts T (a .counts .now) L) (a .own .now) (a .marks .now) (a .monitor) (e .if1 .left) _ _ _ (w .wide .ensures) (c .before .value-at .ensures) (c .count-in .ensures)))
+    at-start (counts T (a .counts .now) L) (a .own .now) (a .marks .now) (a .monitor) (e .if1 .left) _ _ _ (w .wide .ensures) (c .before .word-at .ensures) (c .count-in .ensures)))

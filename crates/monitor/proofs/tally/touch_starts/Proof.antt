@@ -3,7 +3,7 @@
 use mathlib.Core.List.{List, []}
 use Prim.Native.Nat.{ℕ, _-_}
 use native.Mathlib.Omega.{arith}
-use Rattle.monitor.specs.Counts.{counts, touchStarts}
+use Rattle.monitor.specs.Tally.{counts, touchStarts}
 use Rattle.monitor.proofs.TallySteps.{Toward, starts-first, start-few, starts-next, starts-all}
 use Rattle.monitor.proofs.tally.touch_starts.Statement.{statement}
 use Rattle.monitor.proofs.tally.touch_starts.Tie as tie

@@ -4,7 +4,7 @@ use mathlib.Core.List.{[]}
 use borrow.Author.Needs.{needs}
 use native.Mathlib.Omega.{arith}
 use lib.ListN.{getD}
-use Rattle.monitor.specs.Counts.{counts}
+use Rattle.monitor.specs.Tally.{counts}
 use Rattle.monitor.proofs.TallySteps.{both-touched}
 use Rattle.monitor.proofs.tally.touched.Statement.{statement}
 use Rattle.monitor.proofs.tally.touched.Tie as tie
@@ -27,4 +27,4 @@ touched-spec =
     let s = j .before in
     let i = s .before in
     let a = i .before .args in
-    both-touched (counts (getD (a .tables .now) 0 []) (a .counts .now) (a .places .now)) (a .own .now) (a .marks .now) (a .monitors) (a .letters) _ _ _ _ _ (i .least .ensures) (j .least2 .ensures) (s .touch-starts .ensures _ _) (t .touch-marked .ensures) (c .more .ensures)))
+    both-touched (counts (getD (a .tables .now) 0 []) (a .counts .now) (a .rows .now)) (a .own .now) (a .marks .now) (a .monitors) (a .letters) _ _ _ _ _ (i .least .ensures) (j .least2 .ensures) (s .touch-starts .ensures _ _) (t .touch-marked .ensures) (c .more .ensures)))

@@ -15,7 +15,7 @@ use Rattle.shape.proofs.ends.joined_ends.Reads as joined-ends-reads
 use Rattle.shape.proofs.ends.letter_ends.Reads as letter-ends-reads
 use Rattle.shape.proofs.ends.star_ends.Reads as star-ends-reads
 use Rattle.shape.proofs.sets.one.Reads as one-reads
-use Rattle.shape.proofs.table.word_at.Reads as word-at-reads
+use Rattle.words.proofs.word_at.Reads as word-at-reads
 use Rattle.words.proofs.part0.Reads as part0-reads
 use Rattle.words.proofs.part1.Reads as part1-reads
 use Rattle.words.proofs.part2.Reads as part2-reads

@@ -15,7 +15,7 @@ use Rattle.shape.proofs.sides.joined_sides.Reads as joined-sides-reads
 use Rattle.shape.proofs.sides.letter_at.Reads as letter-at-reads
 use Rattle.shape.proofs.sides.letter_sides.Reads as letter-sides-reads
 use Rattle.shape.proofs.sides.star_sides.Reads as star-sides-reads
-use Rattle.shape.proofs.table.word_at.Reads as word-at-reads
+use Rattle.words.proofs.word_at.Reads as word-at-reads
 use Rattle.words.proofs.part0.Reads as part0-reads
 use Rattle.words.proofs.part1.Reads as part1-reads
 use Rattle.words.proofs.part2.Reads as part2-reads
