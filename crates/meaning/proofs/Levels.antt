@@ -10,7 +10,7 @@ use Rattle.meaning.specs.Lists.{_∈_, any, count, member}
 use Rattle.meaning.specs.Expression.{Letter, Exp, letter, seq, alt, star, pipe, letters, own}
 use Rattle.meaning.specs.Shape.{nullable, last, threads}
 use Rattle.meaning.specs.Fit.{among, required}
-use Rattle.meaning.proofs.ListLaws.{here, there, cons-∈, no-∈, ∈-left, ∈-right, ∈-cast, T-and, and-T, or-T, T-or-left, T-or-right, same-truth, by-test, is-false, any-from, any-to}
+use Rattle.meaning.proofs.ListLaws.{here, there, cons-∈, no-∈, ∈-left, ∈-right, T-and, and-T, or-T, T-or-left, T-or-right, same-truth, by-test, is-false, any-from, any-to, member-∈}
 use Rattle.meaning.proofs.Step.{Solid}
 use Rattle.meaning.proofs.OneWay.{Apart, Numbered, last-has}
 use Rattle.meaning.proofs.Threads.{among-from, own-letters}
@@ -441,10 +441,6 @@ counted-two c n k (m ∷ ks) d i j g h = ⊎-elim
     (λ j′. let x = counted-two c n k ks d i′ j′ g h in omega (arith, x))
     (cons-∈ j))
     (cons-∈ i)
-
--- a letter met is one of them
-member-∈ : (n : ℕ) (ns : List ℕ) → T (member n ns) → n ∈ ns
-member-∈ n ns t = let (k, i, p) = any-to (eqb n) ns t in ∈-cast (eqb→eq n k p) i
 
 -- of a thread that requires one letter at most one was met at most
 pub alone : (f : Exp) (ns : List ℕ) → required f ns ≤ 1 → Alone (λ n. member n ns) f

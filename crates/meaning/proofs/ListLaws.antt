@@ -1,12 +1,13 @@
 -- Facts on lists that the proofs share: `each`, membership, tests.
 use mathlib.Core.List.{List, [], _∷_, _++_, map, append-assoc, map-append}
 pub use mathlib.Core.List.{List·Memᴰ·head as here, List·Memᴰ·tail as there, List·Memᴰ·cases-cons as cons-∈, List·Memᴰ·not-nil as no-∈, List·Memᴰ·append-cases as append-∈, Memᴰ·append-left as ∈-left, Memᴰ·append-right as ∈-right, Memᴰ·map as ∈-map, Memᴰ·of-map as map-∈, Memᴰ·cast as ∈-cast, List·Memᴰ·eq-of-singleton as one-∈}
-use mathlib.Core.Bool.{Bool, true, false, not, cond, _&&_, _||_}
+use mathlib.Core.Bool.{Bool, true, false, not, cond, _&&_, _||_, or-assoc}
 use mathlib.Core.Path.{_≡_, refl, sym, ap, _∙_, subst, fun-ext}
 use mathlib.Core.Logic.{_⊎_, inl, inr}
-use lib.Dec.{T}
+use Prim.Native.Nat.{ℕ}
+use lib.Dec.{T, eqb, eqb→eq, eqb-refl}
 pub use Rattle.trace.proofs.Clash.{clash}
-use Rattle.meaning.specs.Lists.{_∈_, carry, each, any, all, only}
+use Rattle.meaning.specs.Lists.{_∈_, carry, each, any, all, only, member}
 
 module _ {A B : Type 0} where
   pub each-append : (xs ys : List A) (f : A → List B) → each (xs ++ ys) f ≡ each xs f ++ each ys f
@@ -111,6 +112,10 @@ module _ {A : Type 0} (p : A → Bool) where
       pick ih (inl q) = (y, here refl, q)
       pick ih (inr q) = let (x, i, u) = ih q in (x, there i, u)
 
+  pub any-append : (xs ys : List A) → any p (xs ++ ys) ≡ any p xs || any p ys
+  any-append [] ys = refl
+  any-append (x ∷ xs) ys = ap (λ b. p x || b) (any-append xs ys) ∙ sym (or-assoc (p x) (any p xs) (any p ys))
+
   pub all-at : {x : A} {xs : List A} → x ∈ xs → T (all p xs) → T (p x)
   all-at (here {x = y} {xs = ys} e) t = subst (λ z. T (p z)) (sym e) (and-T (p y) (all p ys) t .0)
   all-at (there {x = y} {xs = ys} i) t = all-at i (and-T (p y) (all p ys) t .1)
@@ -118,6 +123,12 @@ module _ {A : Type 0} (p : A → Bool) where
   pub all-from : (xs : List A) → ((x : A) → x ∈ xs → T (p x)) → T (all p xs)
   all-from [] h = tt
   all-from (y ∷ ys) h = T-and (p y) (all p ys) (h y (here refl)) (all-from ys (λ x i. h x (there i)))
+
+pub ∈-member : (n : ℕ) (ns : List ℕ) → n ∈ ns → T (member n ns)
+∈-member n ns i = any-from (eqb n) i (eqb-refl n)
+
+pub member-∈ : (n : ℕ) (ns : List ℕ) → T (member n ns) → n ∈ ns
+member-∈ n ns t = let (k, i, p) = any-to (eqb n) ns t in ∈-cast (eqb→eq n k p) i
 
 pub none-in : {A : Type 0} {x : A} {xs : List A} → xs ≡ [] → x ∈ xs → ⊥
 none-in {x} p i = no-∈ (subst (λ l. x ∈ l) p i)

@@ -11,7 +11,7 @@ use Rattle.meaning.specs.Lists.{_∈_, each, any, count, only, below, me
 use Rattle.meaning.specs.Expression.{Letter, Exp, letter, seq, alt, star, pipe, letters, rows}
 use Rattle.meaning.specs.Positions.{has}
 use Rattle.meaning.specs.Touched.{Touch, asked, left, isAsked, isLeft, rowsIn}
-use Rattle.meaning.proofs.ListLaws.{here, there, no-∈, append-∈, ∈-left, ∈-right, only-∈, one-∈, any-to, and-T, by-cond, is-true, is-false, clash}
+use Rattle.meaning.proofs.ListLaws.{here, there, no-∈, append-∈, ∈-left, ∈-right, only-∈, one-∈, any-to, any-append, and-T, by-cond, is-true, is-false, clash}
 use Rattle.meaning.proofs.OneWay.{Apart, Numbered, apart-has}
 use Rattle.meaning.proofs.Threads.{among-to, among-at, rest-has, one-own}
 use Rattle.meaning.proofs.Counting.{asking, leaving, touchesAtStart, touchesAfter, one, ends, tally, tallyAfter}
@@ -46,15 +46,6 @@ by-table (suc n) f g t = let (h, k) = and-T (equal n (f true) (g true)) (equal n
 -- the middle two change places
 cross : (a b c d : Bool) → (a || b) || (c || d) ≡ (a || c) || (b || d)
 cross = by-table 4 (λ a b c d. (a || b) || (c || d)) (λ a b c d. (a || c) || (b || d)) tt
-
--- a test over two lists
-any-append : {A : Type 0} (p : A → Bool) (xs ys : List A) → any p (xs ++ ys) ≡ any p xs || any p ys
-any-append p [] ys = refl
-any-append p (x ∷ xs) ys = ap (λ b. p x || b) (any-append p xs ys) ∙ or-assoc (p x) (any p xs) (any p ys)
-  where
-    or-assoc : (a b c : Bool) → a || (b || c) ≡ (a || b) || c
-    or-assoc true b c = refl
-    or-assoc false b c = refl
 
 -- ---- the touches in e row by row, as `tally` counts them ----
 

@@ -1,8 +1,8 @@
 -- The threads of an expression and their letters: what passes from a part to its operands passes to its threads; which letters a part has of its own (F17); and what it says of the parts that a letter
 -- is a last one of the whole and that nothing comes next after it, or that it is none.
 use mathlib.Core.List.{List, [], _∷_, _++_}
-use mathlib.Core.Bool.{Bool, true, false, not, _&&_, _||_}
-use mathlib.Core.Path.{_≡_, refl, sym, ap, _∙_, subst}
+use mathlib.Core.Bool.{false, not, _&&_, _||_}
+use mathlib.Core.Path.{_≡_, refl, sym, subst}
 use mathlib.Core.Logic.{_⊎_, inl, inr, ⊎-elim}
 use Prim.Native.Nat.{ℕ}
 use lib.Dec.{T, T-not, not-T, eqb, eqb→eq, eqb-refl}
@@ -11,7 +11,7 @@ use Rattle.meaning.specs.Expression.{Letter, Exp, letter, seq, alt, star
 use Rattle.meaning.specs.Shape.{nullable, first, last, follow, threads}
 use Rattle.meaning.specs.Fit.{among}
 use Rattle.meaning.specs.Positions.{has}
-use Rattle.meaning.proofs.ListLaws.{here, cons-∈, no-∈, append-∈, ∈-left, ∈-right, ∈-only, T-and, and-T, or-T, T-or-left, T-or-right, any-from, any-to}
+use Rattle.meaning.proofs.ListLaws.{here, cons-∈, no-∈, append-∈, ∈-left, ∈-right, ∈-only, T-and, and-T, or-T, T-or-left, T-or-right, any-from, any-to, any-append}
 use Rattle.meaning.proofs.Step.{Solid}
 use Rattle.meaning.proofs.OneWay.{Apart, Numbered, Closed, Has, last-has, apart-has}
 
@@ -65,12 +65,7 @@ pub among-at : (ls : List Letter) (n : ℕ) (l : Letter) → l ∈ ls → l .num
 among-at ls n l i p = subst (λ k. T (among ls k)) p (among-from ls l i)
 
 pub among-append : (ls ms : List Letter) (n : ℕ) → among (ls ++ ms) n ≡ (among ls n || among ms n)
-among-append [] ms n = refl
-among-append (l ∷ ls) ms n = ap (λ b. eqb n (l .number) || b) (among-append ls ms n) ∙ or-assoc (eqb n (l .number)) (among ls n) (among ms n)
-  where
-    or-assoc : (a b c : Bool) → (a || (b || c)) ≡ ((a || b) || c)
-    or-assoc true b c = refl
-    or-assoc false b c = refl
+among-append ls ms n = any-append (λ (l : Letter). eqb n (l .number)) ls ms
 
 pub among-left : (ls ms : List Letter) (n : ℕ) → T (among ls n) → T (among (ls ++ ms) n)
 among-left ls ms n t = subst T (sym (among-append ls ms n)) (T-or-left (among ls n) (among ms n) t)

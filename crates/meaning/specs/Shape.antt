@@ -3,7 +3,7 @@ use mathlib.Core.List.{List, [], _∷_, _++_}
 use mathlib.Core.Bool.{Bool, true, false, _&&_, _||_}
 use mathlib.Core.Path.{_≡_}
 use mathlib.Core.Logic.{_⊎_}
-use Prim.Native.Nat.{ℕ, _+_, _^_, _<_, _≤_}
+use Prim.Native.Nat.{ℕ, _^_, _<_, _≤_}
 use lib.Dec.{T, eqb}
 use Rattle.meaning.specs.Lists.{_∈_, all, only}
 use Rattle.meaning.specs.Expression.{Literal, wire, wire-store, wire-past, store, Letter, field, Exp, letter, seq, alt, star, pipe, letters}

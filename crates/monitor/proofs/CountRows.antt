@@ -25,14 +25,13 @@ use Rattle.meaning.proofs.Rows.{Stands, laid-length}
 use Rattle.meaning.proofs.Counting.{one, askedCount, Place, fresh, leftOfSeq, rightOfSeq, sideOfAlt, bodyOfStar, leftOfPipe, threadPlace, ownPlace, starts, sums}
 use Rattle.words.specs.Words.{quad, part0, part1, part2, part3}
 use Rattle.words.proofs.Quads.{quad-0, quad-1, quad-2, quad-3}
-use Rattle.rules.specs.Laying.{kindCode, leftCode}
 use Rattle.rules.specs.Watches.{watchOf}
 use Rattle.counts.specs.Counts.{cost, countIn, nullableIn, seqCost, altCost, costOf, rowCost, costsDown, costsOf}
 use Rattle.counts.specs.Counts.{operandPlace, sibling, rowPlace, ownOfMonitor, ownOfThread, onlyOperand, lettersBefore, placesUp}
 use Rattle.counts.specs.Counts.{leftOfSeq as leftWord, rightOfSeq as rightWord, bodyOfStar as bodyWord}
 use Rattle.monitor.proofs.Stored.{stands-self, front, rear}
 use Rattle.monitor.proofs.Numbered.{programOf, InOrder}
-use Rattle.monitor.proofs.RowWords.{wordOf, laid-up}
+use Rattle.monitor.proofs.RowWords.{wordOf, kind-is, left-is, right-is, up-is}
 use Rattle.monitor.proofs.LetterRows.{HeldAll}
 use Rattle.monitor.proofs.Shut.{two-laid}
 use Rattle.monitor.proofs.Program.{Counted, tableOf, in-order, program-rows, program-letters, program-held, words-right, rows-counted}
@@ -354,27 +353,10 @@ module _ (t : List ℕ) (R : Table) (n : ℕ) (few : n ≤ 1024) (words : (r : �
   abbrev places : List ℕ
   places = placesUp t costs n
 
-  -- row r's word
-  module _ (r k left right up : ℕ) (h : r < n) (w : wordOf (R r) ≡ quad k left right up) where
-    pub kind-is : k < 65536 → part0 (getD t r 0) ≡ k
-    kind-is l = ap part0 (words r h ∙ w) ∙ quad-0 k left right up l
-
-    pub left-is : left < 65536 → part1 (getD t r 0) ≡ left
-    left-is l = ap part1 (words r h ∙ w) ∙ quad-1 k left right up l
-
-    right-is : right < 65536 → part2 (getD t r 0) ≡ right
-    right-is l = ap part2 (words r h ∙ w) ∙ quad-2 k left right up l
-
-    -- an operator's is no letter's
-    operator-row : 0 < k → k < 65536 → lettersBefore t (suc r) ≡ lettersBefore t r
-    unfolding lettersBefore
-    operator-row z l = rw (kind-is l, ne-eqb k 0 (λ e. omega (arith, e, z))) (omega arith)
-
-  -- the row above e
-  pub up-is : (r up : ℕ) (e : Exp) → r < n → up < n → Stands R r (laid r up e) → part3 (getD t r 0) ≡ up
-  up-is r up e h l s =
-      let u = laid-up R r up e s in
-      ap part3 (words r h) ∙ quad-3 (kindCode (R r .kind)) (leftCode 0 (R r .left) (R r .kind)) (R r .right) (R r .up) (omega (arith, u, l, few)) ∙ u
+  -- an operator's row is no letter's
+  operator-row : (r k left right up : ℕ) → r < n → wordOf (R r) ≡ quad k left right up → 0 < k → k < 65536 → lettersBefore t (suc r) ≡ lettersBefore t r
+  unfolding lettersBefore
+  operator-row r k left right up h w z l = rw (kind-is k left right up (words r h ∙ w) l, ne-eqb k 0 (λ e. omega (arith, e, z))) (omega arith)
 
   -- an operator's cost, by that of its operands in rows i and j
   cost-by : (r i j : ℕ) → r < n → part1 (getD t r 0) ≡ i → r < i → part2 (getD t r 0) ≡ j → r < j → getD costs r 0 ≡ costOf (getD t r 0) (getD costs i 0) (getD costs j 0)
@@ -385,17 +367,17 @@ module _ (t : List ℕ) (R : Table) (n : ℕ) (few : n ≤ 1024) (words : (r : �
       → ((w a b : ℕ) → part0 w ≡ j → costOf w a b ≡ F a b) → CostIs (F (getD costs (suc r) 0) (getD costs (suc r + rows e) 0)) g → CostIs (getD costs r 0) g
   two-cost j r up e f g F l h w k c =
       let d : r < n = omega (arith, h) in
-      let a = left-is r j (suc r) (suc r + rows e) up d w (omega (arith, h, few)) in
-      let b = right-is r j (suc r) (suc r + rows e) up d w (omega (arith, h, few)) in
+      let a = left-is j (suc r) (suc r + rows e) up (words r d ∙ w) (omega (arith, h, few)) in
+      let b = right-is j (suc r) (suc r + rows e) up (words r d ∙ w) (omega (arith, h, few)) in
       subst (λ (x : ℕ). CostIs x g)
-      (sym (cost-by r (suc r) (suc r + rows e) d a (omega arith) b (omega arith) ∙ k (getD t r 0) _ _ (kind-is r j (suc r) (suc r + rows e) up d w l))) c
+      (sym (cost-by r (suc r) (suc r + rows e) d a (omega arith) b (omega arith) ∙ k (getD t r 0) _ _ (kind-is j (suc r) (suc r + rows e) up (words r d ∙ w) l))) c
 
   -- the cost of e
   pub costs-for : (r up : ℕ) (e : Exp) → r + rows e ≤ n → Stands R r (laid r up e) → CostIs (getD costs r 0) e
   unfolding laid rows askedCount nullable
   costs-for r up (letter l) h s =
       let d : r < n = omega (arith, h) in
-      let q : getD costs r 0 ≡ cost 1 false = cost-at t n few r d ∙ rw (kind-is r 0 (0 + l .number) 0 up d (ap wordOf (s .0)) (omega arith)) refl in
+      let q : getD costs r 0 ≡ cost 1 false = cost-at t n few r d ∙ rw (kind-is 0 (0 + l .number) 0 up (words r d ∙ ap wordOf (s .0)) (omega arith)) refl in
       subst (λ (x : ℕ). CostIs x (letter l)) (sym q) (refl, refl)
   costs-for r up (seq e f) h s =
       let (a, b) = two-laid R r e f (s .1) in
@@ -410,7 +392,7 @@ module _ (t : List ℕ) (R : Table) (n : ℕ) (few : n ≤ 1024) (words : (r : �
       let w = ap wordOf (s .0) in
       let u = costs-for (suc r) r e (omega (arith, h)) (s .1) in
       let q : getD costs r 0 ≡ cost (2 + askedCount e) true
-      = cost-at t n few r d ∙ rw (kind-is r 3 (suc r) 0 up d w (omega arith), left-is r 3 (suc r) 0 up d w (omega (arith, h, few)), behind t n few r d (suc r) (omega arith), u .0) refl in
+      = cost-at t n few r d ∙ rw (kind-is 3 (suc r) 0 up (words r d ∙ w) (omega arith), left-is 3 (suc r) 0 up (words r d ∙ w) (omega (arith, h, few)), behind t n few r d (suc r) (omega arith), u .0) refl in
       subst (λ (x : ℕ). CostIs x (star e)) (sym q) (cost-parts (2 + askedCount e) true (omega (arith, few-asked e, h, few)))
   costs-for r up (pipe e f) h s =
       let u = costs-for (suc r) r e (omega (arith, h)) (two-laid R r e f (s .1) .0) in
@@ -426,7 +408,7 @@ module _ (t : List ℕ) (R : Table) (n : ℕ) (few : n ≤ 1024) (words : (r : �
   unfolding laid rows size lettersBefore
   before-for r up (letter l) h s =
       let i : r + 1 ≡ suc r = omega arith in
-      ap (lettersBefore t) i ∙ rw (kind-is r 0 (0 + l .number) 0 up (omega (arith, h)) (ap wordOf (s .0)) (omega arith)) refl
+      ap (lettersBefore t) i ∙ rw (kind-is 0 (0 + l .number) 0 up (words r (omega (arith, h)) ∙ ap wordOf (s .0)) (omega arith)) refl
   before-for r up (seq e f) h s =
       let (a, b) = two-laid R r e f (s .1) in
       two-before r e f (operator-row r 1 (suc r) (suc r + rows e) up (omega (arith, h)) (ap wordOf (s .0)) (omega arith) (omega arith))
@@ -449,7 +431,7 @@ module _ (t : List ℕ) (R : Table) (n : ℕ) (few : n ≤ 1024) (words : (r : �
   placeUnder r r′ = operandPlace (getD t r 0) (getD places r 0) (getD costs r′ 0) (getD costs (sibling (getD t r 0) r′) 0) r r′ (lettersBefore t r′)
 
   under : (r r′ : ℕ) (e : Exp) → r < r′ → r′ < n → Stands R r′ (laid r′ r e) → getD places r′ 0 ≡ placeUnder r r′
-  under r r′ e l h s = place-below t costs n r′ r few h (up-is r′ r e h (omega (arith, l, h)) s) l
+  under r r′ e l h s = place-below t costs n r′ r few h (up-is R t n few words r′ r e h (omega (arith, l, h)) s) l
 
   -- by the operator's kind; i is the row of its other operand, or of its left one
   module _ (r r′ : ℕ) where
@@ -493,9 +475,9 @@ module _ (t : List ℕ) (R : Table) (n : ℕ) (few : n ≤ 1024) (words : (r : �
       let (a, b) = two-laid R r e f s in
       let o = operator-row r j (suc r) (suc r + rows e) up d w z l in
       record {
-        kind = kind-is r j (suc r) (suc r + rows e) up d w l;
-        left = left-is r j (suc r) (suc r + rows e) up d w (omega (arith, h, few));
-        right = right-is r j (suc r) (suc r + rows e) up d w (omega (arith, h, few));
+        kind = kind-is j (suc r) (suc r + rows e) up (words r d ∙ w) l;
+        left = left-is j (suc r) (suc r + rows e) up (words r d ∙ w) (omega (arith, h, few));
+        right = right-is j (suc r) (suc r + rows e) up (words r d ∙ w) (omega (arith, h, few));
         apart = λ i. omega (arith, i, a-row e);
         e-laid = a;
         f-laid = b;
@@ -560,7 +542,7 @@ module _ (t : List ℕ) (R : Table) (n : ℕ) (few : n ≤ 1024) (words : (r : �
           stored-for (suc r) r k (bodyOfStar e c) m q e (omega (arith, h)) z o (s .1) (subst (λ (y : Row). Held (y .left) e) (s .0) (d .2)) low
               (operator-row r 3 (suc r) 0 up i w (omega arith) (omega arith) ∙ v)
               (here-by (suc r) _ (bodyOfStar e c) m q e
-              (under r (suc r) e (omega arith) (omega (arith, h, a-row e)) (s .1) ∙ body-of-star r (suc r) (kind-is r 3 (suc r) 0 up i w (omega arith)))
+              (under r (suc r) e (omega arith) (omega (arith, h, a-row e)) (s .1) ∙ body-of-star r (suc r) (kind-is 3 (suc r) 0 up (words r i ∙ w) (omega arith)))
               (stored-body _ _ c m q (star e) x e _ (costs-for (suc r) r e (omega (arith, h)) (s .1)) low)),
         )
     stored-for r up k c m q (pipe e f) h z o s d b v x =
@@ -590,7 +572,7 @@ module _ (t : List ℕ) (R : Table) (n : ℕ) (few : n ≤ 1024) (words : (r : �
         let x = costs-for r r m (omega (arith, h)) a in
         let low : Low (ownPlace m) 0 0 m = (b m (here refl), omega arith, omega arith, omega arith) in (
           stored-for r r k (ownPlace m) 0 0 m (omega (arith, h)) (omega (arith, z)) (o .0) a (d .0) low v
-              (here-by r _ (ownPlace m) 0 0 m (place-own t costs n r r few i (up-is r r m i i a) refl) (stored-own _ m x low)),
+              (here-by r _ (ownPlace m) 0 0 m (place-own t costs n r r few i (up-is R t n few words r r m i i a) refl) (stored-own _ m x low)),
           stored-for-all (r + rows m) (k + size m) ms (omega (arith, h)) (omega (arith, z)) (o .1)
               (rear R r (r + rows m) (laid r r m) (laidAll (r + rows m) ms) (omega (arith, laid-length r r m)) s) (d .2) (λ y j. b y (there j))
               (before-for r r m (omega (arith, h)) a ∙ ap (λ (j : ℕ). j + size m) v),

@@ -5,13 +5,13 @@ use mathlib.Core.List.{List, [], _∷_, _++_, append-assoc}
 use mathlib.Core.Logic.{⊎-elim}
 use Prim.Native.Nat.{ℕ, suc, _+_, _<_, _≤_}
 use native.Mathlib.Omega.{arith}
-use lib.Dec.{T, eqb, eqb→eq, eqb-refl}
+use lib.Dec.{eqb}
 use lib.ListN.{length, getD}
 use Rattle.meaning.specs.Lists.{_∈_, each, carry, only, member, total}
 use Rattle.meaning.specs.Expression.{Letter, Exp, letter, seq, alt, star, pipe, letters, size, Ordered}
 use Rattle.meaning.specs.Fit.{Tick, write, writeMet}
 use Rattle.meaning.specs.Positions.{Positions, kept, keptEach, writeEach}
-use Rattle.meaning.proofs.ListLaws.{here, there, clash, no-∈, append-∈, ∈-left, ∈-right, map-∈, ∈-map, any-from, any-to, same-truth}
+use Rattle.meaning.proofs.ListLaws.{here, there, clash, no-∈, append-∈, ∈-left, ∈-right, map-∈, ∈-map, ∈-member, member-∈, same-truth}
 use Rattle.meaning.proofs.Shifted.{shiftAll, shiftPositions}
 use Rattle.rules.proofs.Placing.{letters-long}
 use Rattle.monitor.specs.Letters.{Given, writeLetter}
@@ -133,18 +133,12 @@ shift-in l n ns i = ∈-map (λ k. l + k) i
 pub in-shift : (l n : ℕ) (ns : List ℕ) → l + n ∈ shiftAll l ns → n ∈ ns
 in-shift l n ns i = let (d, u, e) = map-∈ (λ k. l + k) ns i in subst (λ (z : ℕ). z ∈ ns) (omega (arith, e)) u
 
-pub to-member : (n : ℕ) (ns : List ℕ) → n ∈ ns → T (member n ns)
-to-member n ns i = any-from (eqb n) i (eqb-refl n)
-
-pub from-member : (n : ℕ) (ns : List ℕ) → T (member n ns) → n ∈ ns
-from-member n ns h = let (d, u, e) = any-to (eqb n) ns h in subst (λ (z : ℕ). z ∈ ns) (sym (eqb→eq n d e)) u
-
 -- a letter of the monitor in the middle
 member-here : (pre ns rest : List ℕ) (l n i : ℕ) → ((k : ℕ) → k ∈ pre → k < l) → ((k : ℕ) → k ∈ rest → l + n ≤ k) → i < n
     → member (l + i) (pre ++ (shiftAll l ns ++ rest)) ≡ member i ns
 member-here pre ns rest l n i below above h =
-    same-truth (member (l + i) (pre ++ (shiftAll l ns ++ rest))) (member i ns) (λ p. to-member i ns (inner (from-member (l + i) _ p)))
-    (λ p. to-member (l + i) _ (∈-right pre (∈-left rest (shift-in l i ns (from-member i ns p)))))
+    same-truth (member (l + i) (pre ++ (shiftAll l ns ++ rest))) (member i ns) (λ p. ∈-member i ns (inner (member-∈ (l + i) _ p)))
+    (λ p. ∈-member (l + i) _ (∈-right pre (∈-left rest (shift-in l i ns (member-∈ i ns p)))))
   where
     late : l + i ∈ rest → i ∈ ns
     late k = let b = above (l + i) k in absurd (omega (arith, b, h))

@@ -98,7 +98,17 @@ module _ (Q : Letter → Type 0) (n : ℕ) where
       each-append RowFits (laid r r m) (laidAll (r + rows m) ms) (laid-fits r r m (omega (arith, a-row m)) (omega arith) (q m (here refl)))
       (all-fit (r + rows m) ms (omega arith) (λ x i. q x (there i)))
 
--- ---- what stands under an `@`
+-- ---- the parts of a row's word
+
+module _ {x : ℕ} (k left right up : ℕ) (e : x ≡ quad k left right up) where
+  pub kind-is : k < 65536 → part0 x ≡ k
+  kind-is h = ap part0 e ∙ quad-0 k left right up h
+
+  pub left-is : left < 65536 → part1 x ≡ left
+  left-is h = ap part1 e ∙ quad-1 k left right up h
+
+  pub right-is : right < 65536 → part2 x ≡ right
+  right-is h = ap part2 e ∙ quad-2 k left right up h
 
 module _ (R : Table) where
   pub laid-up : (r up : ℕ) (e : Exp) → Stands R r (laid r up e) → R r .up ≡ up
@@ -109,6 +119,16 @@ module _ (R : Table) where
   laid-up r up (star e) s = ap (λ x. x .up) (s .0)
   laid-up r up (pipe e f) s = ap (λ x. x .up) (s .0)
 
+  -- the row above e, in a table t that has the words of n rows
+  pub up-is : (t : List ℕ) (n : ℕ) → n ≤ 1024 → ((r : ℕ) → r < n → getD t r 0 ≡ wordOf (R r))
+      → (r up : ℕ) (e : Exp) → r < n → up < n → Stands R r (laid r up e) → part3 (getD t r 0) ≡ up
+  up-is t n few words r up e h l s =
+      let u = laid-up r up e s in
+      ap part3 (words r h) ∙ quad-3 (kindCode (R r .kind)) (leftCode 0 (R r .left) (R r .kind)) (R r .right) (R r .up) (omega (arith, u, l, few)) ∙ u
+
+-- ---- what stands under an `@`
+
+module _ (R : Table) where
   two-threaded : (κ : Kind) (r up : ℕ) (e f : Exp) → Stands R (suc r) (laid (suc r) r e ++ laid (suc r + rows e) r f)
       → (Stands R (suc r) (laid (suc r) r e) → Each (Threaded R) (laid (suc r) r e))
       → (Stands R (suc r + rows e) (laid (suc r + rows e) r f) → Each (Threaded R) (laid (suc r + rows e) r f))
@@ -116,8 +136,8 @@ module _ (R : Table) where
   two-threaded κ r up e f s p q =
       let a = front R (suc r) (laid (suc r) r e) (laid (suc r + rows e) r f) s in
       let b = rear R (suc r) (suc r + rows e) (laid (suc r) r e) (laid (suc r + rows e) r f) (omega (arith, laid-length (suc r) r e)) s in
-      let c = laid-up (suc r) r e a in
-      (λ k. (laid-up (suc r + rows e) r f b ∙ sym c, omega (arith, c), omega (arith, a-row e)), each-append (Threaded R) (laid (suc r) r e) (laid (suc r + rows e) r f) (p a) (q b))
+      let c = laid-up R (suc r) r e a in
+      (λ k. (laid-up R (suc r + rows e) r f b ∙ sym c, omega (arith, c), omega (arith, a-row e)), each-append (Threaded R) (laid (suc r) r e) (laid (suc r + rows e) r f) (p a) (q b))
 
   laid-threaded : (r up : ℕ) (e : Exp) → Stands R r (laid r up e) → Each (Threaded R) (laid r up e)
   unfolding laid

@@ -19,8 +19,7 @@ use Rattle.meaning.proofs.Walk.{a-row}
 use Rattle.meaning.proofs.Rows.{Stands, laid-length}
 use Rattle.meaning.proofs.Within.{Each}
 use Rattle.words.specs.Words.{quad, part0, part1, part2, part3}
-use Rattle.words.proofs.Quads.{quad-0, quad-1, quad-2, quad-3}
-use Rattle.rules.specs.Laying.{kindCode, leftCode}
+use Rattle.words.proofs.Quads.{quad-2, quad-3}
 use Rattle.rules.specs.Watches.{watchOf}
 use Rattle.rules.specs.declared.Watch.{Watch}
 use Rattle.rules.proofs.Overlay.{sets-behind}
@@ -30,7 +29,7 @@ use Rattle.monitor.specs.Calls.{writersOf, threadedOf, unthreadedOf, giv
 use Rattle.monitor.proofs.Stored.{stands-at, stands-self, front, rear, each-append, each-at, stored-from, stored-at}
 use Rattle.monitor.proofs.Marked.{before-first, first-low}
 use Rattle.monitor.proofs.Numbered.{programOf, InOrder}
-use Rattle.monitor.proofs.RowWords.{wordOf, laid-up}
+use Rattle.monitor.proofs.RowWords.{wordOf, kind-is, left-is, up-is}
 use Rattle.monitor.proofs.Shut.{threads-long, two-laid}
 use Rattle.monitor.proofs.ThreadSteps.{seq-left, seq-right, alt-either, star-body, pipe-left, pipe-right, row-below, row-above, no-letter, thread-stored}
 use Rattle.monitor.proofs.Writers.{up-to-below, beyond, threadsIn, beforeThreads, before-long, counts-are}
@@ -123,23 +122,13 @@ module _ (n : ℕ) where
 module _ (t : List ℕ) (R : Table) (n : ℕ) (few : n ≤ 1024) (words : (r : ℕ) → r < n → getD t r 0 ≡ wordOf (R r)) where
   -- the number of an operand's row, r′, where the operator stands at row r
   under : (r r′ : ℕ) (e : Exp) → r < r′ → r′ < n → Stands R r′ (laid r′ r e) → numberOf t r′ ≡ operandNumber (getD t r 0) (numberOf t r) r′
-  under r r′ e l h s =
-      let u = laid-up R r′ r e s in
-      number-below t r′ r (omega (arith, h, few))
-      (sym (ap part3 (words r′ h) ∙ quad-3 (kindCode (R r′ .kind)) (leftCode 0 (R r′ .left) (R r′ .kind)) (R r′ .right) (R r′ .up) (omega (arith, u, l, h, few)) ∙ u)) l
+  under r r′ e l h s = number-below t r′ r (omega (arith, h, few)) (sym (up-is R t n few words r′ r e h (omega (arith, l, h)) s)) l
 
-  -- an operator's word, by its kind's number k
-  module _ (r k left right up : ℕ) (h : r < n) (w : wordOf (R r) ≡ quad k left right up) where
-    kind-is : k < 65536 → k ≡ part0 (getD t r 0)
-    kind-is l = sym (ap part0 (words r h ∙ w) ∙ quad-0 k left right up l)
-
-    left-is : left < 65536 → left ≡ part1 (getD t r 0)
-    left-is l = sym (ap part1 (words r h ∙ w) ∙ quad-1 k left right up l)
-
-    -- it stores nothing
-    operator-row : 0 < k → k < 65536 → threadsFrom t (suc r) ≡ threadsFrom t r
-    unfolding threadsFrom
-    operator-row z l = sym (no-letter (threadsFrom t r) (getD t r 0) (numberOf t r) k (kind-is l) (λ (e : k ≡ 0). omega (arith, e, z)))
+  -- an operator, by its kind's number k, stores nothing
+  operator-row : (r k left right up : ℕ) → r < n → wordOf (R r) ≡ quad k left right up → 0 < k → k < 65536 → threadsFrom t (suc r) ≡ threadsFrom t r
+  unfolding threadsFrom
+  operator-row r k left right up h w z l =
+      sym (no-letter (threadsFrom t r) (getD t r 0) (numberOf t r) k (sym (kind-is k left right up (words r h ∙ w) l)) (λ (e : k ≡ 0). omega (arith, e, z)))
 
   -- two operands' letters, one's behind the other's
   two-stored : (r k T T′ : ℕ) (c c′ : Bool) (e f : Exp) → threadsFrom t (suc r) ≡ threadsFrom t r
@@ -168,8 +157,8 @@ module _ (t : List ℕ) (R : Table) (n : ℕ) (few : n ≤ 1024) (words : (r : �
       let x = a-row e in
       let y = a-row f in
       let a = two-laid R r e f s in
-      let u = kind-is r j (suc r) (suc r + rows e) up d w l in
-      let v = left-is r j (suc r) (suc r + rows e) up d w (omega (arith, h, few)) in
+      let u = sym (kind-is j (suc r) (suc r + rows e) up (words r d ∙ w) l) in
+      let v = sym (left-is j (suc r) (suc r + rows e) up (words r d ∙ w) (omega (arith, h, few))) in
       let p = ap (λ (i : ℕ). operandNumber (getD t r 0) i (suc r)) q in
       let p′ = ap (λ (i : ℕ). operandNumber (getD t r 0) i (suc r + rows e)) q in
       two-stored r k T₁ T₂ c₁ c₂ e f (operator-row r j (suc r) (suc r + rows e) up d w z l)
@@ -182,8 +171,8 @@ module _ (t : List ℕ) (R : Table) (n : ℕ) (few : n ≤ 1024) (words : (r : �
   letter-stored r k T c up h m w q =
       let i : r + 1 ≡ suc r = omega arith in
       ap (threadsFrom t) i
-      ∙ sym (thread-stored (threadsFrom t r) (getD t r 0) (numberOf t r) 0 (kind-is r 0 k 0 up (omega (arith, h)) w (omega arith)) refl k
-      (left-is r 0 k 0 up (omega (arith, h)) w (omega (arith, m))) (omega (arith, m)) (cond c T 0) (thread-coded T c ∙ ap threadOf (sym q)))
+      ∙ sym (thread-stored (threadsFrom t r) (getD t r 0) (numberOf t r) 0 (sym (kind-is 0 k 0 up (words r (omega (arith, h)) ∙ w) (omega arith))) refl k
+      (sym (left-is 0 k 0 up (words r (omega (arith, h)) ∙ w) (omega (arith, m)))) (omega (arith, m)) (cond c T 0) (thread-coded T c ∙ ap threadOf (sym q)))
 
   stored-for : (r up k T : ℕ) (c : Bool) (e : Exp) → r + rows e ≤ n → k + size e ≤ 256 → Ordered k e → Stands R r (laid r up e) → numberOf t r ≡ coded T c
       → threadsFrom t (r + rows e) ≡ sets (threadsFrom t r) k (threadRows r T c e)
@@ -205,8 +194,8 @@ module _ (t : List ℕ) (R : Table) (n : ℕ) (few : n ≤ 1024) (words : (r : �
   stored-for r up k T c (star e) h m o s q =
       let d : r < n = omega (arith, h) in
       let w = ap wordOf (s .0) in
-      let u = kind-is r 3 (suc r) 0 up d w (omega arith) in
-      let v = left-is r 3 (suc r) 0 up d w (omega (arith, h, few)) in
+      let u = sym (kind-is 3 (suc r) 0 up (words r d ∙ w) (omega arith)) in
+      let v = sym (left-is 3 (suc r) 0 up (words r d ∙ w) (omega (arith, h, few))) in
       let i : r + (1 + rows e) ≡ suc r + rows e = omega arith in
       ap (threadsFrom t) i
       ∙ stored-for (suc r) r k T true e (omega (arith, h)) m o (s .1)
@@ -228,15 +217,13 @@ module _ (t : List ℕ) (R : Table) (n : ℕ) (few : n ≤ 1024) (words : (r : �
   stored-for-all r k [] h m o s = let i : r + 0 ≡ r = omega arith in ap (threadsFrom t) i
   stored-for-all r k (e ∷ es) h m o s =
       let a = front R r (laid r r e) (laidAll (r + rows e) es) s in
-      let u = laid-up R r r e a in
       let d : r < n = omega (arith, h, a-row e) in
       let i : r + (rows e + total rows es) ≡ r + rows e + total rows es = omega arith in
-      let up = ap part3 (words r d) ∙ quad-3 (kindCode (R r .kind)) (leftCode 0 (R r .left) (R r .kind)) (R r .right) (R r .up) (omega (arith, u, d, few)) ∙ u in
       ap (threadsFrom t) i
       ∙ stored-for-all (r + rows e) (k + size e) es (omega (arith, h)) (omega (arith, m)) (o .1)
       (rear R r (r + rows e) (laid r r e) (laidAll (r + rows e) es) (omega (arith, laid-length r r e)) s)
       ∙ ap (λ (A : List ℕ). sets A (k + size e) (threadRowsAll (r + rows e) es))
-      (stored-for r r k 0 false e (omega (arith, h)) (omega (arith, m)) (o .0) a (number-own t r r (omega (arith, d, few)) (sym up) (omega arith)))
+      (stored-for r r k 0 false e (omega (arith, h)) (omega (arith, m)) (o .0) a (number-own t r r (omega (arith, d, few)) (sym (up-is R t n few words r r e d d a)) (omega arith)))
       ∙ sets-behind (threadsFrom t r) k (k + size e) (threadRows r 0 false e) (threadRowsAll (r + rows e) es) _ (omega (arith, threads-long r 0 false e)) refl
 
 -- ---- in a watch's tables

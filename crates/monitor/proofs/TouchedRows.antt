@@ -17,7 +17,7 @@ use Rattle.meaning.specs.Touched.{touched}
 use Rattle.meaning.specs.Positions.{has, Positions, at-start, on}
 use Rattle.meaning.specs.Calls.{Call, look, take, looked, replyIn, touchedBy, ok, Tells, standing, AllRightly, AllAnswered}
 use Rattle.meaning.specs.Opening.{Opened, openText}
-use Rattle.meaning.proofs.ListLaws.{here, there, no-∈, cons-∈, ∈-map, is-true, is-false, same-truth}
+use Rattle.meaning.proofs.ListLaws.{here, there, no-∈, cons-∈, ∈-map, is-true, is-false, same-truth, ∈-member, member-∈}
 use Rattle.meaning.proofs.Monitor.{Accepted}
 use Rattle.meaning.proofs.Watch.{Tracked}
 use Rattle.meaning.proofs.Numbering.{between}
@@ -34,7 +34,7 @@ use Rattle.counts.specs.Counts.{costsOf, placesUp, countsOf}
 use Rattle.monitor.specs.Tally.{counts, touchedOf}
 use Rattle.monitor.specs.Calls.{replyOf, touchedOn, answerOf, answersOf, repliesOf, watchAfterCall, watchAfterAll}
 use Rattle.monitor.proofs.Going.{markedFrom, MarksAre}
-use Rattle.monitor.proofs.Moves.{in-shift, to-member, from-member, MarksAll}
+use Rattle.monitor.proofs.Moves.{in-shift, MarksAll}
 use Rattle.monitor.proofs.ShutRows.{in-marked, marked-in}
 use Rattle.monitor.proofs.Numbered.{programOf}
 use Rattle.monitor.proofs.Program.{Counted, text-counted, in-order, program-length, program-letters, monitors-counted, letters-counted, program-laid}
@@ -61,8 +61,8 @@ module _ (K : List ℕ) where
     same-met x i =
         let (_, b) = between 0 m o x i in
         same-truth (marked (l + x .number)) (member (x .number) ns)
-        (λ h. to-member (x .number) ns (in-shift l (x .number) ns (subst (λ zs. l + x .number ∈ zs) e (in-marked K (size m) l (l + x .number) (omega arith) (omega (arith, b)) (is-marked (l + x .number) h)))))
-        (λ h. to-marked (l + x .number) (marked-in K (size m) l (l + x .number) (subst (λ zs. l + x .number ∈ zs) (sym e) (∈-map (λ k. l + k) (from-member (x .number) ns h))) .2))
+        (λ h. ∈-member (x .number) ns (in-shift l (x .number) ns (subst (λ zs. l + x .number ∈ zs) e (in-marked K (size m) l (l + x .number) (omega arith) (omega (arith, b)) (is-marked (l + x .number) h)))))
+        (λ h. to-marked (l + x .number) (marked-in K (size m) l (l + x .number) (subst (λ zs. l + x .number ∈ zs) (sym e) (∈-map (λ k. l + k) (member-∈ (x .number) ns h))) .2))
 
     sums-marked : sumsAfter marked (renumbered l m) ≡ sumsAfter (λ n. member n ns) m
     sums-marked =

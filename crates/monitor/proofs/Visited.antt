@@ -44,10 +44,10 @@ use Rattle.monitor.proofs.Going.{markedFrom, MarksAre}
 use Rattle.monitor.proofs.Moves.{MarksAll}
 use Rattle.monitor.proofs.Stored.{stands-self, front, rear}
 use Rattle.monitor.proofs.Numbered.{programOf}
-use Rattle.monitor.proofs.RowWords.{wordOf}
+use Rattle.monitor.proofs.RowWords.{wordOf, kind-is, left-is, up-is}
 use Rattle.monitor.proofs.LetterRows.{HeldAll}
 use Rattle.monitor.proofs.Program.{Counted, LaidFrom, text-counted, tableOf, program-held, program-laid, words-right, monitors-counted, within-same}
-use Rattle.monitor.proofs.CountRows.{kind-is, left-is, up-is, costs-for, operands}
+use Rattle.monitor.proofs.CountRows.{costs-for, operands}
 use Rattle.monitor.proofs.VisitedRows.{Sane, begun-sane, RowIs, Built, asked-some, monitor-few}
 use Rattle.monitor.proofs.TouchedRows.{marked, same-met}
 use Rattle.monitor.proofs.Calls.{marks-right, watch-held}
@@ -95,7 +95,7 @@ module _ (g : Given) (R : Table) (n : ℕ) (few : n ≤ 1024) (words : (r : ℕ)
       record {
         below = omega (arith, h, z, few);
         kind = a;
-        above = up-is (g .table) R n few words r up e (omega (arith, h, z)) u s;
+        above = up-is R (g .table) n few words r up e (omega (arith, h, z)) u s;
         null = costs-for (g .table) R n few words r up e h s .1;
       }
 
@@ -103,7 +103,7 @@ module _ (g : Given) (R : Table) (n : ℕ) (few : n ≤ 1024) (words : (r : ℕ)
   built : (r up : ℕ) (e : Exp) → r + rows e ≤ n → up < n → Stands R r (laid r up e) → Held r e → Built g nul L r up e
   unfolding laid rows
   built r up (letter l) h u s d =
-      (row-is 0 r up (letter l) h u s (kind-is (g .table) R n few words r 0 (0 + l .number) 0 up (omega (arith, h)) (ap wordOf (s .0)) (omega arith)), d .1)
+      (row-is 0 r up (letter l) h u s (kind-is 0 (0 + l .number) 0 up (words r (omega (arith, h)) ∙ ap wordOf (s .0)) (omega arith)), d .1)
   built r up (seq e f) h u s d =
       let q = operands (g .table) R n few words 1 r up e f (omega arith) (omega arith) h (ap wordOf (s .0)) (s .1) in (
         row-is 1 r up (seq e f) h u s (q .kind),
@@ -121,8 +121,8 @@ module _ (g : Given) (R : Table) (n : ℕ) (few : n ≤ 1024) (words : (r : ℕ)
   built r up (star e) h u s d =
       let w = ap wordOf (s .0) in
       let i : r < n = omega (arith, h) in (
-        row-is 3 r up (star e) h u s (kind-is (g .table) R n few words r 3 (suc r) 0 up i w (omega arith)),
-        left-is (g .table) R n few words r 3 (suc r) 0 up i w (omega (arith, h, few)),
+        row-is 3 r up (star e) h u s (kind-is 3 (suc r) 0 up (words r i ∙ w) (omega arith)),
+        left-is 3 (suc r) 0 up (words r i ∙ w) (omega (arith, h, few)),
         built (suc r) r e (omega (arith, h)) i (s .1) (subst (λ (y : Row). Held (y .left) e) (s .0) (d .2)),
       )
   built r up (pipe e f) h u s d =

@@ -14,7 +14,7 @@ use Rattle.meaning.specs.Lists.{_∈_, total, member}
 use Rattle.meaning.specs.Expression.{Exp, size, Ordered}
 use Rattle.meaning.specs.Fit.{Tick}
 use Rattle.meaning.specs.Positions.{Positions, go, Ticked, fine, wrong, goOn, goEach, keptEach, writeEach}
-use Rattle.meaning.proofs.ListLaws.{here, there, no-∈, clash}
+use Rattle.meaning.proofs.ListLaws.{here, there, no-∈, clash, ∈-member, member-∈}
 use Rattle.meaning.proofs.Numbering.{between}
 use Rattle.meaning.proofs.Sets.{go-inside}
 use Rattle.monitor.specs.Letters.{Given}
@@ -22,7 +22,7 @@ use Rattle.monitor.specs.Ticks.{Layout, marksAfter, writeMarked, writers
 use Rattle.monitor.proofs.Padded.{zeros-at}
 use Rattle.monitor.proofs.Memory.{Marked, Exactly}
 use Rattle.monitor.proofs.Going.{AllGo, Went, monitors-go, spread}
-use Rattle.monitor.proofs.Moves.{AllInside, all-marked, to-member, from-member, MarksAll, marks-all, AllWriteAs, writes-all}
+use Rattle.monitor.proofs.Moves.{AllInside, all-marked, MarksAll, marks-all, AllWriteAs, writes-all}
 
 -- ---- the letters met are each monitor's own
 
@@ -99,11 +99,11 @@ module _ (Good : List ℕ → Type 0) (long : (M : List ℕ) → Good M → leng
   marked-if M ks x k c = ap (λ (z : ℕ). eqb z 0) (after-at 256 M (omega arith) (long M (x .good)) k (omega (arith, c, few-letters))) ∙ by (member k ks) refl
     where
       by : (b : Bool) → member k ks ≡ b → eqb (getD M (1024 + k) 0) 0 ≡ not b
-      by true e = ne-eqb (getD M (1024 + k) 0) 0 (λ z. let p = x .adds k (from-member k ks (subst T (sym e) tt)) in absurd (omega (arith, p, z)))
+      by true e = ne-eqb (getD M (1024 + k) 0) 0 (λ z. let p = x .adds k (member-∈ k ks (subst T (sym e) tt)) in absurd (omega (arith, p, z)))
       by false e =
           eq-eqb (getD M (1024 + k) 0) 0
           (zero-or (getD M (1024 + k) 0) (bits M (x .good) k (omega (arith, c, few-letters)))
-          (λ p. ⊎-elim (clear k) (λ q. subst T e (to-member k ks q)) (x .only k p)))
+          (λ p. ⊎-elim (clear k) (λ q. subst T e (∈-member k ks q)) (x .only k p)))
 
   module _ (xs : List Positions) (σ : List ℕ) (pad : List ℕ → List ℕ) (stores : ℕ) (marked : MarksAll K 0 0 ms xs) (long-values : length σ ≡ stores) (padded : g .values ≡ pad σ)
       (go-all : AllGo Good g t y K 0 0 ms xs) (writes : (Q : List ℕ) → AllWriteAs g t Q pad stores 0 ms) where

@@ -1,5 +1,5 @@
--- How many rows a tick touches (docs/REFERENCE.md, F23 to F26), by the words that `counts` lays out once for a watch: they mirror the code, over any numbers that a watch may hold; proofs/TouchedRows ties them,
--- for an accepted text, to the definition (meaning's Touched). Assumes nothing.
+-- How many rows a tick touches (docs/REFERENCE.md, F23 to F26), by the words that `counts` lays out once for a watch. The definitions mirror the code, over any numbers that a watch may hold; proofs/TouchedRows
+-- ties them, for an accepted text, to the one that is to be believed (meaning's Touched). Assumes nothing.
 use mathlib.Core.Bool.{cond}
 use mathlib.Core.List.{List, []}
 use Prim.Native.Nat.{ℕ, zero, suc, _+_, _-_, _%_, min}

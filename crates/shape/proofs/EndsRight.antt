@@ -7,6 +7,7 @@ use lib.Dec.{eqb}
 use Rattle.meaning.specs.Lists.{any, null, only}
 use Rattle.meaning.specs.Expression.{Exp, letter, seq, alt, star, pipe}
 use Rattle.meaning.specs.Shape.{nullable, first, last, follow, threads}
+use Rattle.meaning.proofs.ListLaws.{any-append}
 use Rattle.shape.specs.Ends.{Ends, letterEnds, starEnds, joinedEnds}
 use Rattle.shape.proofs.Walked.{folded}
 
@@ -16,14 +17,6 @@ module _ {A : Type 0} where
   some-append : (xs ys : List A) → not (null (xs ++ ys)) ≡ not (null xs) || not (null ys)
   some-append [] ys = refl
   some-append (x ∷ xs) ys = refl
-
-  any-append : (p : A → Bool) (xs ys : List A) → any p (xs ++ ys) ≡ any p xs || any p ys
-  any-append p [] ys = refl
-  any-append p (x ∷ xs) ys = ap (λ (b : Bool). p x || b) (any-append p xs ys) ∙ or-assoc (p x) (any p xs) (any p ys)
-    where
-      or-assoc : (a b c : Bool) → a || (b || c) ≡ (a || b) || c
-      or-assoc true b c = refl
-      or-assoc false b c = refl
 
   -- a list that has some, if at all
   some-only : (b : Bool) (xs : List A) → not (null xs) ≡ true → not (null (only b xs)) ≡ b

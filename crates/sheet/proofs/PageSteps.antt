@@ -5,7 +5,7 @@ use mathlib.Core.List.{List, [], _∷_, _++_}
 use Prim.Native.Nat.{ℕ, zero, suc, _+_, _-_, _*_, _/_, _%_, _^_, _≤_, _<_}
 use native.Mathlib.Omega.{arith}
 use native.Mathlib.Nat.{div-eq-of-lt, div-lt-iff-lt-mul, mod-eq-of-lt, pow-suc, le-trans}
-use lib.ListN.{length, getD, set, take, drop, length-append, length-set, length-drop, drop-of-length-le}
+use lib.ListN.{length, getD, set, take, drop, length-append, length-set, length-drop}
 use lib.Seq.{sets, drop-cons, drop-set-lt, getD-set-same, getD-set-other, lt-length-set, take-at}
 use lib.Pow.{shr-shr}
 use borrow.Author.Count.{below-more}

@@ -2,7 +2,7 @@
 use mathlib.Core.Path.{_≡_, refl, sym, _∙_, ap, subst}
 use mathlib.Core.Bool.{Bool, true, false, cond}
 use mathlib.Core.List.{List, [], _∷_, _++_, append-assoc, append-nil}
-use Prim.Native.Nat.{ℕ, zero, suc, _≤_, _<_}
+use Prim.Native.Nat.{ℕ, zero, suc, _≤_}
 use native.Mathlib.Omega.{arith}
 use native.Mathlib.Nat.{le-refl}
 use lib.Dec.{eqb, ltb}
@@ -20,7 +20,7 @@ use Rattle.meaning.specs.Calls as calls
 use Rattle.meaning.specs.Sheet.{firstLine, refusalLine, sheet}
 use Rattle.rules.specs.Watches.{watchOf}
 use Rattle.monitor.specs.Calls.{replyOf, watchAfter}
-use Rattle.sheet.specs.Lines.{Run, run, Ran, ran, printing, okLine, onReply, onRead, runOn, runOver, lastLine, closed, isRefused, sheetOf}
+use Rattle.sheet.specs.Lines.{Run, run, Ran, ran, okLine, onReply, onRead, runOn, runOver, closed, isRefused}
 use Rattle.sheet.specs.Pieces.{joined, runEach, printedInPieces}
 use Rattle.sheet.proofs.RunSteps.{run-step}
 use Rattle.sheet.proofs.Printed.{sheet-printed}

@@ -14,7 +14,6 @@ use Rattle.trace.specs.Shown.{shownRead}
 use Rattle.trace.specs.declared.Read.{Read}
 use Rattle.trace.proofs.Lists.{part-rest}
 use Rattle.trace.proofs.Traces.{word-length}
-use Rattle.meaning.specs.Answers as meaning
 use Rattle.meaning.specs.Calls as calls
 use Rattle.meaning.specs.Sheet.{refusalLine}
 use Rattle.rules.specs.declared.Watch.{Watch}
