@@ -1,7 +1,8 @@
 //! Turns the tables of the cases into wire records and sheets, and checks that
 //! these still agree.
 //!
-//!     tool build FOLDER         writes NAME.bin and NAME.sheet of each NAME.table
+//!     tool build FOLDER         writes NAME.bin and NAME.sheet of each NAME.table,
+//!                               the sheet without its foot
 //!     tool check FOLDER NAME    compares both with the table, and standard input
 //!                               (the sheet a program printed) with NAME.sheet
 //!
@@ -12,7 +13,9 @@
 //! comment. One comment states the verdict: `# expect: clean` or
 //! `# expect: bad MONITOR at tick TICK`.
 //!
-//! No rule is run here: a sheet is made from the verdict its table states.
+//! No rule is run here: a sheet is made from the verdict its table states. What a
+//! table does not say are the totals at its foot: `met M L C` for each letter, and
+//! `total T`. Of them only their number, their form and their sum are checked here.
 
 use std::fmt::Write as _;
 use std::io::Read as _;
@@ -54,7 +57,7 @@ fn build(folder: &Path) -> Result<(), String> {
 }
 
 /// Compares the records and the sheet of a table with what it says, and the
-/// sheet on standard input with both.
+/// sheet on standard input with that sheet.
 fn check(folder: &Path, name: &str) -> Result<(), String> {
     let mut printed = Vec::new();
     std::io::stdin()
@@ -62,15 +65,17 @@ fn check(folder: &Path, name: &str) -> Result<(), String> {
         .map_err(|e| format!("standard input: {e}"))?;
     let path = folder.join(format!("{name}.table"));
     let case = Case::read(folder, &path)?;
-    for (file, expected) in [
-        (path.with_extension("bin"), &case.records[..]),
-        (path.with_extension("sheet"), case.sheet.as_bytes()),
-    ] {
-        if read(&file)? != expected {
-            return Err(format!("{}: not what the table says", file.display()));
-        }
+    let (bin, sheet) = (path.with_extension("bin"), path.with_extension("sheet"));
+    let not_said = |file: &Path| format!("{}: not what the table says", file.display());
+    if read(&bin)? != case.records {
+        return Err(not_said(&bin));
     }
-    match first_difference(&case.sheet, &String::from_utf8_lossy(&printed)) {
+    let stored = read_text(&sheet)?;
+    let foot = stored.strip_prefix(&case.sheet).ok_or(not_said(&sheet))?;
+    if !is_foot(foot, case.letters) {
+        return Err(format!("{}: no totals at its foot", sheet.display()));
+    }
+    match first_difference(&stored, &String::from_utf8_lossy(&printed)) {
         None => Ok(()),
         Some((right, came)) => Err(format!(
             "{}: the sheet has {right:?}, the program printed {came:?}",
@@ -92,9 +97,33 @@ fn first_difference<'a>(one: &'a str, other: &'a str) -> Option<(&'a str, &'a st
     }
 }
 
+/// Whether these lines are totals: one for each letter, and last their sum.
+fn is_foot(lines: &str, letters: usize) -> bool {
+    let lines: Vec<&str> = lines.split_inclusive('\n').collect();
+    let Some((last, met)) = lines.split_last() else {
+        return false;
+    };
+    let counts: Option<Vec<u64>> = met.iter().map(|line| count_of(line)).collect();
+    counts.is_some_and(|counts| {
+        let sum: u64 = counts.iter().sum();
+        counts.len() == letters && *last == format!("total {sum}\n")
+    })
+}
+
+/// The count of a line `met M L C`.
+fn count_of(line: &str) -> Option<u64> {
+    match line.trim_end().split(' ').collect::<Vec<_>>()[..] {
+        ["met", _, _, count] => count.parse().ok(),
+        _ => None,
+    }
+}
+
 /// What a table stands for.
 struct Case {
     records: Vec<u8>,
+    /// How many letters its rules have.
+    letters: usize,
+    /// The sheet without its foot.
     sheet: String,
 }
 
@@ -103,10 +132,12 @@ impl Case {
         let rules = folder.join("rules.txt");
         let wires = wires(&read_text(&rules)?).map_err(|e| format!("{}: {e}", rules.display()))?;
         let counts = read_text(&folder.join("counts.txt"))?;
+        let letters = counts.split_whitespace().last().unwrap_or("");
         let table = Table::parse(&read_text(path)?, &wires)
             .map_err(|e| format!("{}: {e}", path.display()))?;
         Ok(Case {
             records: records(&table.words),
+            letters: number(letters)? as usize,
             sheet: table.sheet(counts.trim_end()),
         })
     }
@@ -193,6 +224,7 @@ impl Table {
         }
     }
 
+    /// The sheet without its foot.
     fn sheet(&self, counts: &str) -> String {
         let mut sheet = format!("{counts}\n");
         for (tick, word) in self.words.iter().enumerate() {

@@ -3,7 +3,7 @@
  *     client sheet RULES TRACE         prints the sheet of two files
  *     client cases FILE..              runs files of cases (name, text, trace, sheet) and compares each sheet
  *     client same RULES TRACE SHEET    compares the sheet of two files with a third
- *     client limits                    a short range, no range, records, and traces of 1,000,000 ticks and one more
+ *     client limits                    a short range, no range, records, 256 letters, and traces of 1,000,000 ticks and one more
  *
  * It exits with 0 if all is well. */
 #include <stdio.h>
@@ -96,29 +96,34 @@ static int run_cases(const char *name)
     return bad;
 }
 
-/* The last line of a sheet. */
-static const char *last_line(struct bytes sheet, char *line, size_t room)
+/* Whether a sheet ends with these lines. */
+static int ends(struct bytes sheet, const char *lines)
 {
-    size_t end = sheet.length, from;
-    if (end > 0)
-        end--;
-    for (from = end; from > 0 && sheet.at[from - 1] != '\n'; from--)
-        ;
-    snprintf(line, room, "%.*s", (int)(end - from), (const char *)sheet.at + from);
-    return line;
+    size_t length = strlen(lines);
+    return sheet.length >= length && memcmp(sheet.at + sheet.length - length, lines, length) == 0;
+}
+
+/* The most letters, and so the most lines at the foot, in the room for a sheet without ticks. */
+static int run_letters(void)
+{
+    static const char rules[] = "input a; q -> a, a, a, a, a, a, a, a; p -> q, q, q, q, q, q, q, q; monitor p, p, p, p;";
+    struct bytes text = {(uint8_t *)(uintptr_t)rules, sizeof rules - 1}, nothing = {NULL, 0};
+    struct bytes sheet = sheet_of(text, nothing);
+    int bad = check("256 letters", ends(sheet, "\nmet 3 62 0\nmet 3 63 0\ntotal 0\n"));
+    free(sheet.at);
+    return bad;
 }
 
 static int run_limits(void)
 {
     static const char rules[] = "input a; p -> a || !a; monitor p;";
     struct bytes text = {(uint8_t *)(uintptr_t)rules, sizeof rules - 1};
-    char line[64];
-    int bad = 0;
+    int bad = run_letters();
 
     bad += check("no range", linewatch_sheet(text.at, text.length, NULL, 0, NULL, 0) == 0);
     struct bytes nothing = {NULL, 0};
     struct bytes refused = sheet_of(nothing, nothing);
-    bad += check("no text", strcmp(last_line(refused, line, sizeof line), "refused 3 0") == 0);
+    bad += check("no text", ends(refused, "refused 3 0\n"));
     free(refused.at);
 
     uint8_t record[9];
@@ -133,11 +138,11 @@ static int run_limits(void)
     if (!records.at)
         exit(2);
     struct bytes sheet = sheet_of(text, records);
-    bad += check("1,000,000 ticks", strcmp(last_line(sheet, line, sizeof line), "clean 1000000") == 0);
+    bad += check("1,000,000 ticks", ends(sheet, "\nclean 1000000\nmet 0 0 0\nmet 0 1 1000000\ntotal 1000000\n"));
     free(sheet.at);
     records.length = 1000001;
     sheet = sheet_of(text, records);
-    bad += check("1,000,001 ticks", strcmp(last_line(sheet, line, sizeof line), "refused 17 1000000") == 0);
+    bad += check("1,000,001 ticks", ends(sheet, "\nrefused 17 1000000\n"));
     free(sheet.at);
     free(records.at);
     printf("limits: %d differences\n", bad);

@@ -17,12 +17,13 @@ static inline size_t number_at(const uint8_t *p)
     return p[0] | (size_t)p[1] << 8 | (size_t)p[2] << 16 | (size_t)p[3] << 24;
 }
 
-/* The sheet in memory of its own, with as much room as it can need: a line has less than 64 bytes, and a record at least one.
+/* The sheet in memory of its own, with as much room as it can need: 64 bytes for the line of each tick, whose record has at least one byte, and 6,400
+ * for the other lines, which are 24 for each of at most 256 letters at the foot and 256.
  *
  * The call needs up to 552 KB of stack, by the length of the text (docs/C.md); the first thread of a program mostly has 8 MB. */
 static inline struct bytes sheet_of(struct bytes text, struct bytes records)
 {
-    size_t room = 64 * (records.length < 1000001 ? records.length + 4 : 1000005);
+    size_t room = 6400 + 64 * (records.length < 1000000 ? records.length : 1000000);
     struct bytes sheet = {malloc(room), 0};
     if (!sheet.at)
         exit(2);

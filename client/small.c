@@ -6,7 +6,7 @@
 int main(void) {
     const char *text = "input GUARD; shut -> GUARD; monitor shut;";
     uint64_t words[] = {1, 1, 0}, before = 0;
-    uint8_t records[27], sheet[192 + 64 * 27];
+    uint8_t records[27], sheet[6400 + 64 * 27];
     size_t length = 0;
     for (size_t i = 0; i < 3; i++) {
         length += linewatch_write_record(before, words[i], records + length, sizeof records - length);

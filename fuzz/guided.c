@@ -22,11 +22,13 @@
 
 size_t second_sheet(const uint8_t *text, size_t text_length, const uint8_t *records, size_t records_length, uint8_t *sheet,
                     size_t sheet_length);
+size_t second_letters(const uint8_t *text, size_t text_length);
 size_t second_record(uint64_t before, uint64_t word, uint8_t *out);
 
 enum {
     MOST = 1 << 16,          /* bytes of an input; a longer one is left out */
-    MOST_SHEET = 64 * MOST + 192,
+    MOST_LETTERS = 256,
+    MOST_SHEET = 256 + 24 * MOST_LETTERS + 64 * MOST,
     UNTOUCHED = 0xa5,        /* what a range is filled with before a call */
     MARGIN = 64,             /* bytes beside a range that are watched too */
     LONGEST_RECORD = 9
@@ -137,13 +139,14 @@ static void check_sheet(struct bytes text, struct bytes records, size_t length, 
         fail("text or records changed");
 }
 
-/* Room for one pass, exactly enough room, one byte too few; then once more from the other side. */
+/* Just the room with which the library writes in one pass, exactly enough room, one byte too few; then once more from the other side. The first
+ * is 24 bytes for each letter, 64 for each byte of the records, of which no input has a million, and 256 besides. */
 static void check_sheets(struct bytes text, struct bytes records)
 {
     struct bytes right = {right_bytes, second_sheet(text.at, text.length, records.at, records.length, right_bytes, MOST_SHEET)};
     if (right.length == 0)
         fail("second prints nothing");
-    check_sheet(text, records, 64 * records.length + 192, BACK, right);
+    check_sheet(text, records, 256 + 24 * second_letters(text.at, text.length) + 64 * records.length, BACK, right);
     check_sheet(text, records, right.length, BACK, right);
     check_sheet(text, records, right.length - 1, BACK, right);
     check_sheet(text, records, right.length, FRONT, right);

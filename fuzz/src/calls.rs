@@ -200,7 +200,7 @@ impl Touches {
         let opened = opened::open(std::str::from_utf8(&case.text).expect("an accepted text is ASCII"));
         let (mut watch, mut model) = (Watch::new(&program), Model::new(&opened));
         let (mut shared_ok, mut shared_bad, mut not_last) = (false, false, false);
-        for (_, word) in calls_of(&case.trace).filter(|(letter, _)| *letter == TAKE) {
+        for word in takes(&case.trace) {
             match watch.take(word).answer {
                 Answer::Ok => {
                     shared_ok |= is_shared(&model.touched());
@@ -224,6 +224,11 @@ impl Touches {
 fn is_shared(touched: &[BTreeSet<Touched>]) -> bool {
     let mut all = BTreeSet::new();
     !touched.iter().flatten().all(|row| all.insert(row))
+}
+
+/// The words of the takes among some calls.
+pub fn takes(bytes: &[u8]) -> impl Iterator<Item = u64> + '_ {
+    calls_of(bytes).filter(|(letter, _)| *letter == TAKE).map(|(_, word)| word)
 }
 
 /// The calls that some bytes are: the letter and the word of each.
@@ -288,7 +293,7 @@ mod tests {
     fn lines_are_counted_by_kind() {
         let met = met([
             &b"rows 1 letters 1\nlook bad 0\nlook bad 3\ntake ok touched 1\nlook bad 1\nlook refused 15\ntake bad 0 touched 2\ntake refused 16 touched 0\n"[..],
-            b"rows 1 letters 1\nlook ok\ntake ok touched 1\nlook bad 0\n",
+            b"rows 1 letters 1\nlook ok\ntake ok touched 1\nlook bad 0\nmet 0 0 1\ntotal 1\n",
             b"refused 3 0\n",
             b"refused 12 0 1\n",
         ]);

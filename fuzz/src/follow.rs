@@ -1,6 +1,7 @@
 //! Words for a rule text: they keep the rules as long as such words are found quickly, and then leave them, for some. Where the text has `past`, many words are
 //! the one before on the fields that it holds, and many are that but for a bit. Where it has threads, many words meet a letter of a left operand of `@`; of the
-//! traces some take a word back where it led to a thread that is started while it runs, and others end there, with a word that is bad for that alone.
+//! traces some take a word back where it led to a thread that is started while it runs, and others end there, with a word that is bad for that alone. Where it
+//! has several monitors, many traces end with a word that is bad for a later one and fits those before it.
 
 use crate::model::{Model, Said};
 use crate::opened::Opened;
@@ -23,9 +24,11 @@ fn bit_of(random: &mut Random, word: u64) -> u64 {
     *random.pick(&bits)
 }
 
-/// What words for a text are made of: its wires, the fields that `past` holds, and the letters that start threads, by the wires they look at and want.
+/// What words for a text are made of: its wires, how many monitors it has, the fields that `past` holds, and the letters that start threads, by the wires they
+/// look at and want.
 struct Makings {
     mask: u64,
+    monitors: usize,
     fields: Vec<u64>,
     starters: Vec<(u64, u64)>,
 }
@@ -133,6 +136,12 @@ impl Following<'_, '_> {
         self.words.extend(busy);
     }
 
+    /// A word that is bad for a monitor behind others, which it fits.
+    fn put_later_bad_word(&mut self) {
+        let bad = self.word_that(|this, word| matches!(this.watch.look(word), Answer::Bad(1..)));
+        self.words.extend(bad);
+    }
+
     /// A few words that need not be ok.
     fn put_any_words(&mut self) {
         for _ in 0..self.random.below(4) {
@@ -144,7 +153,8 @@ impl Following<'_, '_> {
     fn leave(&mut self, opened: Option<&Opened>) {
         match opened {
             Some(opened) if !self.random.once_in(4) => self.put_busy_word(opened),
-            _ if !self.makings.fields.is_empty() && self.random.once_in(2) => self.put_moving_word(),
+            _ if !self.makings.fields.is_empty() && !self.random.once_in(3) => self.put_moving_word(),
+            _ if self.makings.monitors > 1 && !self.random.once_in(3) => self.put_later_bad_word(),
             _ if self.random.once_in(2) => self.put_any_words(),
             _ => (),
         }
@@ -159,7 +169,7 @@ pub fn words(random: &mut Random, text: &[u8]) -> Vec<u64> {
     let opened = threads::opened(text);
     let mask = u64::MAX.checked_shr(64 - program.wires()).unwrap_or(0);
     let starters = opened.as_ref().map_or_else(Vec::new, Opened::starters);
-    let makings = Makings { mask, fields: past::fields(text), starters };
+    let makings = Makings { mask, monitors: program.monitors(), fields: past::fields(text), starters };
     let (long, careful) = (random.below(60), random.once_in(2));
     let mut following = Following { random, makings: &makings, watch: Watch::new(&program), words: Vec::new() };
     following.take_words(long, if careful && opened.is_some() { BACKS } else { 0 });

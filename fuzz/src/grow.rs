@@ -1,10 +1,10 @@
 //! Cases grown from the grammar: declarations, productions and monitors at random, most of them such that the shape rules are kept, half of them with
-//! `past`; or a text around a limit, around `past` or around threads; then, for some, a token put in another's place or bytes damaged; and a trace of words
-//! that follow the rules for a while and then leave them (follow.rs), or whose last record is torn, has an idle byte or a bit above the wires.
+//! `past`; or a text around a limit, around `past`, around threads or around totals; then, for some, a token put in another's place or bytes damaged; and a
+//! trace of words that follow the rules for a while and then leave them (follow.rs), or whose last record is torn, has an idle byte or a bit above the wires.
 
 use crate::compare::record;
 use crate::random::Random;
-use crate::{follow, limits, past, threads, Case};
+use crate::{follow, limits, past, several, threads, totals, Case};
 
 struct Input {
     name: String,
@@ -298,10 +298,11 @@ fn trace(random: &mut Random, words: &[u64]) -> Vec<u8> {
 }
 
 pub fn case(random: &mut Random) -> Case {
-    let mut text = match random.below(20) {
+    let mut text = match random.below(22) {
         0 | 1 => limits::text(random),
         2 | 3 => past::formed(random).text,
         4..=7 => threads::text(random),
+        8 | 9 => several::text(random),
         _ => text(random),
     }
     .into_bytes();
@@ -320,10 +321,11 @@ pub fn case(random: &mut Random) -> Case {
     Case { text, trace }
 }
 
-/// The first two words of a sheet's last line, or its first alone where the second is a count: what kind of sheet it is.
+/// The first two words of a sheet's last line above the foot, or its first alone where the second is a count: what kind of sheet it is.
 pub fn kind(case: &Case) -> String {
     let sheet = second::sheet(&case.text, &case.trace);
-    let last = sheet.split(|&b| b == b'\n').rev().nth(1).unwrap_or(&[]);
+    let (above, _) = totals::parted(&sheet);
+    let last = above.split(|&b| b == b'\n').rev().nth(1).unwrap_or(&[]);
     let words: Vec<String> = last.split(|&b| b == b' ').map(|w| String::from_utf8_lossy(w).into_owned()).collect();
     match words[0].as_str() {
         "refused" => format!("refused {:>2}", words[1]),
@@ -337,7 +339,7 @@ mod tests {
     use super::*;
     use std::collections::BTreeSet;
 
-    /// All that a sheet can end in, but for number 17, which takes a million ticks; 16 and 18 stand in no sheet.
+    /// All that a sheet can end in above its foot, but for number 17, which takes a million ticks; 16 and 18 stand in no sheet.
     #[test]
     fn every_kind_of_sheet_is_grown() {
         let grown: BTreeSet<String> = (0..20_000).map(|seed| kind(&case(&mut Random::new(seed)))).collect();

@@ -1,8 +1,9 @@
-//! Random cases through the C entries and through `second`: `fuzz N SEED`. Both sides must print the same (compare.rs says how they are held to it). A
-//! case that fails is made small and saved under `target/fuzz/`, in a folder named by its seed.
+//! Random cases through the C entries and through `second`: `fuzz N SEED`. Both sides must print the same (compare.rs says how they are held to it), and the
+//! foot of it must be the model's (totals.rs). A case that fails is made small and saved under `target/fuzz/`, in a folder named by its seed.
 
 use fuzz::compare::{differs, records_differ};
 use fuzz::random::Random;
+use fuzz::totals::{self, Foot};
 use fuzz::{grow, past, save, shrink, threads, Case};
 use std::collections::BTreeMap;
 use std::path::Path;
@@ -12,14 +13,19 @@ extern "C" {
     fn linewatch_write_record(before: u64, word: u64, out: *mut u8, out_length: usize) -> usize;
 }
 
-fn fails(case: &Case) -> bool {
-    differs(linewatch_sheet, case) || records_differ(linewatch_write_record, case)
+/// What is wrong with a case, whose foot by the model is given; nothing if all is right.
+fn fault(case: &Case, foot: Option<&Foot>) -> Option<&'static str> {
+    if differs(linewatch_sheet, case) || records_differ(linewatch_write_record, case) {
+        return Some("differs");
+    }
+    totals::fault(&second::sheet(&case.text, &case.trace), foot)
 }
 
-fn report(seed: u64, case: Case) {
+fn report(what: &str, seed: u64, case: Case) {
     let folder = format!("target/fuzz/{seed}");
+    let fails = |case: &Case| fault(case, totals::of_sheet(case).as_ref()) == Some(what);
     save::save(Path::new(&folder), &shrink::shrink(case, 1, fails)).expect("the case is saved");
-    println!("differs: seed {seed}, saved in {folder}");
+    println!("{what}: seed {seed}, saved in {folder}");
 }
 
 /// How many accepted texts had `past`, and how their traces were judged.
@@ -52,17 +58,19 @@ fn main() {
     let mut kinds = BTreeMap::new();
     let mut held = Held::default();
     let mut threads = threads::Tally::default();
+    let mut feet = totals::Tally::default();
     let mut found = 0;
     for i in 0..count {
         let seed = first.wrapping_add(i);
         let case = grow::case(&mut Random::new(seed));
-        let kind = grow::kind(&case);
+        let (kind, foot) = (grow::kind(&case), totals::of_sheet(&case));
         held.count(&case, &kind);
         threads.count(&case, &kind);
+        feet.count(foot.as_ref());
         *kinds.entry(kind).or_insert(0u64) += 1;
-        if fails(&case) {
+        if let Some(what) = fault(&case, foot.as_ref()) {
             found += 1;
-            report(seed, case);
+            report(what, seed, case);
         }
     }
     for (kind, n) in kinds {
@@ -70,7 +78,7 @@ fn main() {
     }
     let Held { texts, clean, bad, moved } = held;
     println!("{texts:8} accepted with past: {clean} clean, {bad} bad, {moved} of these for a field that moved");
-    println!("{threads}");
+    println!("{threads}\n{feet}");
     println!("{count} cases, {found} differences");
     if found > 0 {
         std::process::exit(1);

@@ -1,8 +1,10 @@
 //! A model of the watch, for texts that `second` accepts: it goes over the parts of each monitor, from letter to letter, with what has to come behind each
 //! letter that was met. It has nothing of `second`, and says more of a bad word: whether every letter that is required is met, so that the word is bad
-//! only because two starts of one thread both require one. It also tells the rows that a tick touches (rows.rs).
+//! only because two starts of one thread both require one. It also tells the rows that a tick touches (rows.rs) and the letters that it meets (totals.rs).
 //!
-//! An accepted text has no forks, so that a word leads on from a letter in one way at most; the model takes the first that it finds.
+//! An accepted text has no forks, so that a word leads on from a letter to one letter at most. There may be several ways to that one, as stars are left and
+//! sides of a `||` are taken that have no tick: then several branches (docs/REFERENCE.md, F15) have the same letters. The model takes the first way that it
+//! finds, and only counts the others.
 
 use crate::opened::{Letter, Opened, Part};
 use crate::rows::{Rows, Touched};
@@ -87,6 +89,22 @@ impl<'o> Model<'o> {
         self.letters.iter().map(|&letter| self.rows.behind(letter)).collect()
     }
 
+    /// The letters met at the last tick, of all monitors; none before tick 0.
+    pub fn letters(&self) -> &[usize] {
+        &self.letters
+    }
+
+    /// In how many ways a branch can go over a word that is ok. In each it has the same letters there.
+    pub fn ways(&self, word: u64) -> u64 {
+        let step = Step { model: self, word };
+        self.rests.iter().flatten().fold(1, |ways, rest| ways.saturating_mul(step.ways(rest)))
+    }
+
+    /// How many monitors fit a word behind those so far.
+    pub fn fitting(&self, word: u64) -> usize {
+        self.cross(word).iter().filter(|met| fits(met)).count()
+    }
+
     /// What a take of the word would come to.
     pub fn look(&self, word: u64) -> Said {
         said(&self.cross(word))
@@ -133,9 +151,13 @@ impl<'o> Model<'o> {
     }
 }
 
+/// Whether a monitor with these letters fits.
+fn fits(met: &Option<Vec<Met>>) -> bool {
+    met.as_ref().is_some_and(|met| !is_busy(met))
+}
+
 fn said(crossed: &[Option<Vec<Met>>]) -> Said {
-    let does_not_fit = |met: &Option<Vec<Met>>| met.as_ref().is_none_or(|met| is_busy(met));
-    match crossed.iter().position(does_not_fit) {
+    match crossed.iter().position(|met| !fits(met)) {
         None => Said::Ok,
         Some(monitor) if crossed.iter().all(Option::is_some) => Said::Busy(monitor),
         Some(monitor) => Said::Bad(monitor),
@@ -172,7 +194,7 @@ impl Step<'_, '_> {
         match &**rest {
             Rest::Over(_) => true,
             Rest::Again(monitor) => self.enter(*monitor, rest, met),
-            Rest::Then(part, then) => self.enter(*part, then, met) || self.model.opened.hollow[*part] && self.go(then, met),
+            Rest::Then(part, then) => self.enter(*part, then, met) || self.model.opened.hollow[*part] > 0 && self.go(then, met),
             Rest::Start(thread, then) => self.enter(*thread, &Rc::new(Rest::Over(*thread)), met) && self.go(then, met),
         }
     }
@@ -188,10 +210,38 @@ impl Step<'_, '_> {
                 }
                 meets
             }
-            Part::Sequence(e, f) => self.enter(e, &Rc::new(Rest::Then(f, then.clone())), met) || opened.hollow[e] && self.enter(f, then, met),
+            Part::Sequence(e, f) => self.enter(e, &Rc::new(Rest::Then(f, then.clone())), met) || opened.hollow[e] > 0 && self.enter(f, then, met),
             Part::Choice(e, f) => self.enter(e, then, met) || self.enter(f, then, met),
             Part::Star(body) => self.enter(body, &Rc::new(Rest::Then(part, then.clone())), met),
             Part::Pipe(left, thread) => self.enter(left, &Rc::new(Rest::Start(thread, then.clone())), met),
+        }
+    }
+
+    /// In how many ways what has to come can go on at this tick.
+    fn ways(&self, rest: &Rest) -> u64 {
+        match rest {
+            Rest::Over(_) => 1,
+            Rest::Again(monitor) => self.ways_into(*monitor),
+            Rest::Then(part, then) => self.ways_into(*part).saturating_add(self.ways_by(*part, || self.ways(then))),
+            Rest::Start(thread, then) => self.ways_into(*thread).saturating_mul(self.ways(then)),
+        }
+    }
+
+    /// In how many ways a part can have this tick as its first.
+    fn ways_into(&self, part: usize) -> u64 {
+        match self.model.opened.parts[part] {
+            Part::Letter(letter) => u64::from(self.meets(&self.model.opened.letters[letter])),
+            Part::Sequence(e, f) => self.ways_into(e).saturating_add(self.ways_by(e, || self.ways_into(f))),
+            Part::Choice(e, f) => self.ways_into(e).saturating_add(self.ways_into(f)),
+            Part::Star(body) | Part::Pipe(body, _) => self.ways_into(body),
+        }
+    }
+
+    /// The ways of what follows a part that takes no tick.
+    fn ways_by(&self, part: usize, following: impl Fn() -> u64) -> u64 {
+        match self.model.opened.hollow[part] {
+            0 => 0,
+            through => through.saturating_mul(following()),
         }
     }
 }

@@ -43,17 +43,28 @@ pub struct Letter {
 #[derive(Default)]
 pub struct Opened {
     pub parts: Vec<Part>,
-    /// For each part, whether it can take no tick.
-    pub hollow: Vec<bool>,
+    /// For each part, in how many ways it can take no tick.
+    pub hollow: Vec<u64>,
     pub letters: Vec<Letter>,
     /// The part that each monitor is.
     pub monitors: Vec<usize>,
     pub stores: Vec<u64>,
+    pub wires: u32,
 }
 
 impl Opened {
     pub fn has_threads(&self) -> bool {
         self.parts.iter().any(|part| matches!(part, Part::Pipe(..)))
+    }
+
+    /// How many letters each monitor has. A part stands behind its operands, and those of a monitor behind those of the earlier ones.
+    pub fn letters_of_monitors(&self) -> Vec<usize> {
+        let mut from = 0;
+        let letters = |&monitor: &usize| {
+            let parts = &self.parts[std::mem::replace(&mut from, monitor + 1)..=monitor];
+            parts.iter().filter(|part| matches!(part, Part::Letter(_))).count()
+        };
+        self.monitors.iter().map(letters).collect()
     }
 
     /// The letters of left operands of `@`, by the wires they look at and the values wanted.
@@ -86,7 +97,14 @@ pub fn open(text: &str) -> Opened {
     while reader.at < reader.tokens.len() {
         reader.statement();
     }
+    reader.opened.wires = reader.wires;
     reader.opened
+}
+
+/// Opens a text if `second` accepts it.
+pub fn accepted(text: &[u8]) -> Option<Opened> {
+    second::open(text).ok()?;
+    Some(open(std::str::from_utf8(text).expect("an accepted text is ASCII")))
 }
 
 /// A text as it is read. Tokens are names, numbers and single characters: a sign of two is two tokens.
@@ -202,14 +220,14 @@ impl<'t> Reader<'t> {
 
     fn put(&mut self, part: Part) -> usize {
         let hollow = &self.opened.hollow;
-        let is_hollow = match part {
-            Part::Letter(_) | Part::Pipe(..) => false,
-            Part::Star(_) => true,
-            Part::Sequence(e, f) => hollow[e] && hollow[f],
-            Part::Choice(e, f) => hollow[e] || hollow[f],
+        let ways = match part {
+            Part::Letter(_) | Part::Pipe(..) => 0,
+            Part::Star(_) => 1,
+            Part::Sequence(e, f) => hollow[e].saturating_mul(hollow[f]),
+            Part::Choice(e, f) => hollow[e].saturating_add(hollow[f]),
         };
         self.opened.parts.push(part);
-        self.opened.hollow.push(is_hollow);
+        self.opened.hollow.push(ways);
         self.opened.parts.len() - 1
     }
 
@@ -392,8 +410,22 @@ mod tests {
             let opened = open(&format!("input a; p -> {body}; monitor p;"));
             opened.hollow[opened.monitors[0]]
         };
-        assert_eq!(["a*", "a || a*", "a*, a*"].map(hollow), [true; 3]);
-        assert_eq!(["a", "a*, a", "a @ a", "a || a"].map(hollow), [false; 4]);
+        assert_eq!(["a*", "a || a*", "a*, a*", "(a*, a)*"].map(hollow), [1; 4]);
+        assert_eq!(["a* || a*", "(a* || a || a*), a*", "(a* || a*), (a* || a* || a*)"].map(hollow), [2, 2, 6]);
+        assert_eq!(["a", "a*, a", "a @ a", "a || a"].map(hollow), [0; 4]);
+    }
+
+    #[test]
+    fn letters_are_counted_by_monitor() {
+        let opened = open("input a; input b[2:0]; q -> a || !a @ (a, a); p -> a*, q, !a; monitor p, q, p;");
+        assert_eq!((opened.letters_of_monitors(), opened.letters.len(), opened.wires), (vec![6, 4, 6], 16, 4));
+    }
+
+    #[test]
+    fn only_accepted_texts_are_opened() {
+        assert!(accepted(b"input a; p -> a; monitor p;").is_some_and(|opened| opened.letters.len() == 1));
+        assert!(accepted(b"input a; p -> a || a; monitor p;").is_none());
+        assert!(accepted(b"\xff").is_none());
     }
 
     #[test]

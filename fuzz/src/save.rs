@@ -39,13 +39,13 @@ mod tests {
     #[test]
     fn all_three_files_are_written() {
         let files = saved(save, &[1, 1], ["rules.txt", "trace.bin", "trace.sheet"]);
-        assert_eq!(files, [TEXT, &[1, 1], b"rows 1 letters 1\n0 0000000000000001 ok\nclean 1\n"]);
+        assert_eq!(files, [TEXT, &[1, 1], b"rows 1 letters 1\n0 0000000000000001 ok\nclean 1\nmet 0 0 1\ntotal 1\n"]);
     }
 
     #[test]
     fn all_three_files_of_calls_are_written() {
         let calls = b"L\0\0\0\0\0\0\0\0T\x01\0\0\0\0\0\0\0";
         let files = saved(save_calls, calls, ["rules.txt", "calls.bin", "calls.txt"]);
-        assert_eq!(files, [TEXT, calls, b"rows 1 letters 1\nlook bad 0\ntake ok touched 1\n"]);
+        assert_eq!(files, [TEXT, calls, b"rows 1 letters 1\nlook bad 0\ntake ok touched 1\nmet 0 0 1\ntotal 1\n"]);
     }
 }

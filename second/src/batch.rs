@@ -9,7 +9,7 @@
 //! | kind | strings behind the first | answer |
 //! |---|---|---|
 //! | S | rule text, trace | the sheet |
-//! | T | rule text, looks and takes in the form of `calls` | a line for each |
+//! | T | rule text, looks and takes in the form of `calls` | a line for each, and the totals |
 
 use std::io::{self, BufRead, Read, Write};
 
@@ -123,7 +123,7 @@ mod tests {
     use super::*;
 
     const TEXT: &[u8] = b"input a; p -> a; monitor p;";
-    const SHEET: &[u8] = b"rows 1 letters 1\n0 0000000000000001 ok\nclean 1\n";
+    const SHEET: &[u8] = b"rows 1 letters 1\n0 0000000000000001 ok\nclean 1\nmet 0 0 1\ntotal 1\n";
 
     fn case(kind: u8, strings: &[&[u8]]) -> Case {
         Case {
@@ -181,7 +181,7 @@ mod tests {
     #[test]
     fn calls_are_answered_if_they_can_be_read() {
         let answer = |calls| case(b'T', &[b"4", TEXT, calls]).answer();
-        let expected = b"rows 1 letters 1\nlook ok\n";
+        let expected = b"rows 1 letters 1\nlook ok\nmet 0 0 0\ntotal 0\n";
         assert_eq!(answer(b"L\x01\0\0\0\0\0\0\0").unwrap(), expected);
         assert!(answer(b"L\x01\0\0\0\0\0\0").is_err());
         assert!(answer(b"S\x01\0\0\0\0\0\0\0").is_err());

@@ -2,6 +2,7 @@
 //!
 //! A call has nine bytes: `L` for a look or `T` for a take, and its word,
 //! lowest byte first. The line of a take ends in the number of rows it touched.
+//! At the foot stand the totals of the watch, whatever the last answers were.
 
 use std::fmt;
 
@@ -17,8 +18,8 @@ enum Call {
 }
 
 /// The lines that answer calls to a freshly opened watch: the refusal of a
-/// text that is refused, or its counts and a line for each call. There is no
-/// answer if the bytes are not a row of whole calls, whatever the text.
+/// text that is refused, or its counts, a line for each call and the foot. There
+/// is no answer if the bytes are not a row of whole calls, whatever the text.
 pub fn answer_calls(text: &[u8], calls: &[u8]) -> Option<Vec<u8>> {
     let calls = read(calls)?;
     Some(lines_of(text, |program, lines| {
@@ -32,6 +33,7 @@ pub fn answer_calls(text: &[u8], calls: &[u8]) -> Option<Vec<u8>> {
                 }
             }
         }
+        lines.put_foot(watch.totals());
     }))
 }
 

@@ -72,7 +72,8 @@ mod tests {
     #[test]
     fn right_and_wrong_sheets_are_told_apart() {
         let text: &[u8] = b"input a; p -> a; monitor p;";
-        let right: &[u8] = b"rows 1 letters 1\n0 0000000000000001 ok\nclean 1\n";
+        let right: &[u8] =
+            b"rows 1 letters 1\n0 0000000000000001 ok\nclean 1\nmet 0 0 1\ntotal 1\n";
         let file = file(&[b"good", text, &[1, 1], right, b"other", text, &[0], right]);
         let cases = read(&file).unwrap();
         assert_eq!(cases.len(), 2);
@@ -82,7 +83,7 @@ mod tests {
         assert_eq!(difference.expected, right);
         assert_eq!(
             difference.came,
-            b"rows 1 letters 1\n0 0000000000000000 bad 0\n"
+            b"rows 1 letters 1\n0 0000000000000000 bad 0\nmet 0 0 0\ntotal 0\n"
         );
     }
 

@@ -115,6 +115,11 @@ impl Monitor {
         }
     }
 
+    /// How many letters it has.
+    pub fn letters(&self) -> usize {
+        self.letters.len()
+    }
+
     pub fn letter(&self, number: LetterNo) -> &Letter {
         &self.letters[usize::from(number)]
     }

@@ -10,7 +10,8 @@
 //! 4. `shape` judges the limits and the shape rules (numbers 8 to 12),
 //! 5. `fit` moves branches of a monitor over one word, and counts the rows they
 //!    touch,
-//! 6. `watch` keeps the branches and the stores from tick to tick,
+//! 6. `watch` keeps the branches, the stores and the totals of the letters from
+//!    tick to tick,
 //! 7. `record` reads and writes wire records, `sheet` prints what comes of
 //!    them, and `calls` what comes of single calls; `lines` is what both print
 //!    with.
@@ -30,6 +31,8 @@
 //! let taken = watch.take(1);
 //! assert_eq!((taken.answer, taken.touched), (second::Answer::Ok, 2));
 //! assert_eq!(watch.take(0).answer, second::Answer::Bad(0));
+//! // The watch counts at how many ticks each letter of each monitor was met.
+//! assert_eq!(watch.totals(), [[2]]);
 //! ```
 
 pub mod batch;

@@ -1,4 +1,5 @@
-//! What is printed of a rule text: lines, the first of them about the text.
+//! What is printed of a rule text: lines, the first of them about the text and
+//! those at the foot about its letters.
 
 use std::fmt::Display;
 use std::io::Write;
@@ -11,6 +12,19 @@ pub struct Lines(Vec<u8>);
 impl Lines {
     pub fn put(&mut self, line: impl Display) {
         writeln!(self.0, "{line}").expect("a vector takes every write");
+    }
+
+    /// Puts the foot: for each monitor and letter the number of ticks at which
+    /// it was met, and last the sum of these.
+    pub fn put_foot(&mut self, totals: &[Vec<u32>]) {
+        for (monitor, letters) in totals.iter().enumerate() {
+            for (letter, count) in letters.iter().enumerate() {
+                self.put(format_args!("met {monitor} {letter} {count}"));
+            }
+        }
+        // No more than 256 letters at each of a million ticks.
+        let total: u32 = totals.iter().flatten().sum();
+        self.put(format_args!("total {total}"));
     }
 }
 

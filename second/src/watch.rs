@@ -1,12 +1,12 @@
-//! The watch: branches, stores, the last word and the tick count, carried from
-//! tick to tick.
+//! The watch: branches, stores, the last word, the tick count and the totals of
+//! the letters, carried from tick to tick.
 //!
 //! A look judges a word; a take judges it by the same look and then moves the
 //! watch over it. So the two never answer differently.
 
 use std::cell::RefCell;
 
-use crate::fit::{Branch, Crossing};
+use crate::fit::{Branch, Crossing, Monitor};
 use crate::letter::Moment;
 use crate::limit;
 use crate::refusal::{Reason, Refusal};
@@ -43,6 +43,8 @@ pub struct Watch<'p> {
     stores: Vec<u64>,
     /// For each monitor, the branches that fit all words so far.
     branches: Vec<Vec<Branch>>,
+    /// For each monitor, at how many ticks each of its letters was met.
+    totals: Vec<Vec<u32>>,
     /// Kept so that no look has to make room of its own. A take goes on with
     /// what its look has left there; a later look begins anew.
     room: RefCell<Room>,
@@ -61,6 +63,7 @@ struct Room {
 impl<'p> Watch<'p> {
     pub fn new(program: &'p Program) -> Self {
         let monitors = program.monitors();
+        let no_totals = |monitor: &Monitor| vec![0; monitor.letters()];
         Watch {
             program,
             ticks: 0,
@@ -68,6 +71,7 @@ impl<'p> Watch<'p> {
             before: 0,
             stores: program.stores.clone(),
             branches: vec![vec![Branch::before_tick_0()]; monitors],
+            totals: program.monitors.iter().map(no_totals).collect(),
             room: RefCell::new(Room {
                 next: vec![Vec::new(); monitors],
                 crossings: Vec::new(),
@@ -89,6 +93,12 @@ impl<'p> Watch<'p> {
     /// The store values, in the order of their declarations.
     pub fn stores(&self) -> &[u64] {
         &self.stores
+    }
+
+    /// For each monitor and each of its letters, at how many ticks the letter
+    /// was met.
+    pub fn totals(&self) -> &[Vec<u32>] {
+        &self.totals
     }
 
     /// The most branches any monitor has. Without forks it is 1.
@@ -137,7 +147,7 @@ impl<'p> Watch<'p> {
     /// Moves the watch over the word it has just found to be ok.
     fn move_over(&mut self, word: u64) {
         std::mem::swap(&mut self.branches, &mut self.room.get_mut().next);
-        self.write_stores(word);
+        self.meet_letters(word);
         self.before = word;
         self.ticks += 1;
     }
@@ -183,19 +193,27 @@ impl<'p> Watch<'p> {
         None
     }
 
-    /// Carries out the writes of the letters met; the last one to a store
-    /// stands, so monitors, letters and writes go in rising order.
-    fn write_stores(&mut self, word: u64) {
-        for (monitor, branches) in self.program.monitors.iter().zip(&self.branches) {
-            let mut met = Set::EMPTY;
-            for branch in branches {
-                met.insert_all(&branch.letters());
-            }
-            for letter in met.iter() {
+    /// Counts the letters met and carries out their writes; the last one to a
+    /// store stands, so monitors, letters and writes go in rising order.
+    fn meet_letters(&mut self, word: u64) {
+        let monitors = self.program.monitors.iter().zip(&self.branches);
+        for ((monitor, branches), totals) in monitors.zip(&mut self.totals) {
+            for letter in met(branches).iter() {
+                totals[usize::from(letter)] += 1;
                 for write in &monitor.letter(letter).writes {
                     write.apply(word, &mut self.stores);
                 }
             }
         }
     }
+}
+
+/// The letters met at the last tick: those that any of the branches had, each
+/// once.
+fn met(branches: &[Branch]) -> Set {
+    let mut met = Set::EMPTY;
+    for branch in branches {
+        met.insert_all(&branch.letters());
+    }
+    met
 }

@@ -3,7 +3,7 @@
 
 mod common;
 
-use common::Numbers;
+use common::{foot, Numbers};
 use second::{answer_calls, Answer, Program, Watch};
 
 /// The wires of the texts below: a is bit 0, b bit 1, D bits 2 and 3.
@@ -31,9 +31,23 @@ fn open(text: &str) -> Program {
 }
 
 /// All that a watch shows of itself without a look.
-fn shown(watch: &Watch) -> (u32, u64, Vec<u64>, usize) {
-    let stores = watch.stores().to_vec();
-    (watch.ticks(), watch.word_before(), stores, watch.widest())
+#[derive(Debug, PartialEq)]
+struct Shown {
+    ticks: u32,
+    word_before: u64,
+    stores: Vec<u64>,
+    totals: Vec<Vec<u32>>,
+    widest: usize,
+}
+
+fn shown(watch: &Watch) -> Shown {
+    Shown {
+        ticks: watch.ticks(),
+        word_before: watch.word_before(),
+        stores: watch.stores().to_vec(),
+        totals: watch.totals().to_vec(),
+        widest: watch.widest(),
+    }
 }
 
 /// The answers of looks at all words and a stray one.
@@ -274,7 +288,13 @@ fn each_call_has_a_line() {
                     take ok touched 7\n\
                     take bad 0 touched 12\n\
                     look refused 16\n\
-                    take refused 16 touched 0\n";
+                    take refused 16 touched 0\n\
+                    met 0 0 1\n\
+                    met 1 0 1\n\
+                    met 1 1 0\n\
+                    met 2 0 1\n\
+                    met 2 1 0\n\
+                    total 3\n";
     assert_eq!(printed(text, &calls), expected);
 }
 
@@ -282,7 +302,12 @@ fn each_call_has_a_line() {
 fn monitors_are_printed_with_their_number() {
     let many = "p, ".repeat(31);
     let text = format!("input a; p -> a || !a; q -> a; monitor {many}q;");
-    let expected = "rows 94 letters 63\nlook bad 31\ntake bad 31 touched 94\n";
+    let mut totals: Vec<&[u32]> = vec![&[0, 0]; 31];
+    totals.push(&[0]);
+    let expected = format!(
+        "rows 94 letters 63\nlook bad 31\ntake bad 31 touched 94\n{}",
+        foot(&totals, 0)
+    );
     assert_eq!(printed(&text, &[(b'L', 0), (b'T', 0)]), expected);
 }
 
@@ -293,7 +318,7 @@ fn the_lowest_byte_of_a_word_comes_first() {
         text,
         b"L\x01\x02\x03\x04\x05\x06\x07\x08T\x08\x07\x06\x05\x04\x03\x02\x01",
     );
-    let expected = b"rows 1 letters 1\nlook ok\ntake bad 0 touched 1\n";
+    let expected = b"rows 1 letters 1\nlook ok\ntake bad 0 touched 1\nmet 0 0 0\ntotal 0\n";
     assert_eq!(answer.unwrap(), expected);
 }
 
@@ -309,7 +334,8 @@ fn a_refused_text_has_its_line_alone() {
 
 #[test]
 fn no_calls_have_no_lines() {
-    assert_eq!(printed(ONE, &[]), "rows 1 letters 1\n");
+    let expected = "rows 1 letters 1\nmet 0 0 0\ntotal 0\n";
+    assert_eq!(printed(ONE, &[]), expected);
 }
 
 #[test]
@@ -317,9 +343,10 @@ fn a_full_watch_is_printed() {
     let takes = [(b'L', 1), (b'T', 1)].repeat(1_000_000);
     let calls = [takes, vec![(b'L', 1), (b'T', 2)]].concat();
     let printed = printed(ONE, &calls);
-    let end = "look ok\ntake ok touched 2\nlook refused 17\ntake refused 17 touched 0\n";
+    let end = "look ok\ntake ok touched 2\nlook refused 17\ntake refused 17 touched 0\n\
+               met 0 0 1000000\ntotal 1000000\n";
     assert!(printed.ends_with(end));
-    assert_eq!(printed.lines().count(), 1 + calls.len());
+    assert_eq!(printed.lines().count(), 1 + calls.len() + 2);
 }
 
 #[test]

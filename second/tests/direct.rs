@@ -4,8 +4,9 @@
 //! an expression allows (each star up to two rounds); whether words fit, by
 //! following every branch with what each of its starts still has to do; which
 //! rows are touched, by asking of each branch what it can have ended and what
-//! it can begin. All of it takes far too long for large texts and shares
-//! nothing with the library.
+//! it can begin; which letters are met, by listing those that the branches had.
+//! All of it takes far too long for large texts and shares nothing with the
+//! library.
 //!
 //! One test draws any texts, another one texts and words with which starts of
 //! a thread often overlap.
@@ -749,6 +750,8 @@ struct State<'e> {
     branches: Vec<Vec<Doing<'e>>>,
     stores: Stores,
     before: u64,
+    /// For each monitor, the letters met at the tick before.
+    met: Vec<BTreeSet<usize>>,
 }
 
 /// The lowest monitor that no longer fits.
@@ -765,6 +768,7 @@ impl<'e> State<'e> {
             branches: vec![vec![begin]; monitors],
             stores: FIRST_VALUES,
             before: 0,
+            met: vec![BTreeSet::new(); monitors],
         }
     }
 
@@ -774,6 +778,7 @@ impl<'e> State<'e> {
             branches: Vec::new(),
             stores: self.stores,
             before: word,
+            met: Vec::new(),
         };
         for (number, monitor) in monitors.iter().enumerate() {
             let met =
@@ -798,6 +803,7 @@ impl<'e> State<'e> {
                 next.stores[write.store] = (write.value)(word);
             }
             next.branches.push(moved.fitting);
+            next.met.push(letters);
         }
         Ok(next)
     }
@@ -860,6 +866,8 @@ struct Seen {
     in_inner_threads: usize,
     /// Takes at which several starts reach the same row.
     touched_twice: usize,
+    /// Takes at which a monitor has several letters met.
+    met_together: usize,
 }
 
 impl Seen {
@@ -884,6 +892,38 @@ impl Seen {
         self.written += usize::from(after.stores != before.stores);
         self.in_threads += after.starts().count();
         self.handed_over += usize::from(before.hands_over_to(after));
+        self.met_together += usize::from(after.met.iter().any(|met| met.len() > 1));
+    }
+}
+
+/// The ticks at which each letter of each monitor was met, and how many
+/// letters were met at all ticks.
+struct Totals {
+    letters: Vec<Vec<u32>>,
+    at_ticks: usize,
+}
+
+impl Totals {
+    fn new(monitors: &[Monitor]) -> Totals {
+        let none = |monitor: &Monitor| vec![0; monitor.letters.len()];
+        Totals {
+            letters: monitors.iter().map(none).collect(),
+            at_ticks: 0,
+        }
+    }
+
+    /// Adds the tick before this state.
+    fn add(&mut self, state: &State) {
+        for (letters, met) in self.letters.iter_mut().zip(&state.met) {
+            met.iter().for_each(|letter| letters[*letter] += 1);
+            self.at_ticks += met.len();
+        }
+    }
+
+    fn check(&self, watch: &Watch, text: &str, words: &[usize]) {
+        assert_eq!(watch.totals(), self.letters, "{text} {words:?}");
+        let sum: u32 = watch.totals().iter().flatten().sum();
+        assert_eq!(sum as usize, self.at_ticks, "{text} {words:?}");
     }
 }
 
@@ -943,6 +983,7 @@ fn run(
 ) {
     let mut watch = Watch::new(program);
     let mut state = State::first(monitors.len());
+    let mut totals = Totals::new(monitors);
     let mut words = Vec::new();
     for _ in 0..10 {
         let mut outcomes: Vec<_> = (0..WORDS).map(|w| state.after(monitors, w)).collect();
@@ -966,11 +1007,14 @@ fn run(
                 assert_eq!(watch.word_before(), word as u64, "{text} {words:?}");
                 assert_eq!(watch.widest(), 1, "{text} {words:?}");
                 seen.take(&state, &next);
+                totals.add(&next);
+                totals.check(&watch, text, &words);
                 state = next;
             }
             Err(_) => {
                 assert_eq!(watch.stores(), state.stores, "{text} {words:?}");
                 assert_eq!(watch.word_before(), state.before, "{text} {words:?}");
+                totals.check(&watch, text, &words);
                 seen.bad += 1;
                 return;
             }
@@ -1040,4 +1084,5 @@ fn random_texts_whose_threads_overlap_agree_with_the_direct_meaning() {
     assert!(seen.in_inner_threads > 500, "{seen:?}");
     assert!(seen.handed_over > 500, "{seen:?}");
     assert!(seen.touched_twice > 500, "{seen:?}");
+    assert!(seen.met_together > 500, "{seen:?}");
 }

@@ -220,11 +220,14 @@ fn sheets_of_1_000_000_ticks_and_one_more() {
     let text = "input a; p -> a || !a; monitor p;";
     let mut trace = vec![0; 1_000_000];
     let end = |trace: &[u8]| {
-        let sheet = second::sheet(text.as_bytes(), trace);
-        let tail = String::from_utf8_lossy(&sheet[sheet.len() - 60..]).into_owned();
-        tail.lines().skip(1).collect::<Vec<_>>().join("/")
+        let sheet = String::from_utf8(second::sheet(text.as_bytes(), trace)).unwrap();
+        let lines: Vec<&str> = sheet.lines().skip(1_000_000).collect();
+        lines.join("/")
     };
-    assert_eq!(end(&trace), "999999 0000000000000000 ok/clean 1000000");
+    assert_eq!(
+        end(&trace),
+        "999999 0000000000000000 ok/clean 1000000/met 0 0 0/met 0 1 1000000/total 1000000"
+    );
     trace.push(0);
     assert_eq!(end(&trace), "999999 0000000000000000 ok/refused 17 1000000");
     // A record that cannot be read gives no word to take.
@@ -268,7 +271,10 @@ fn a_sheet_has_a_line_for_each_tick() {
                     0 0123456789abcdef ok\n\
                     1 ffffffffffffffff ok\n\
                     2 ffffffffffffffff ok\n\
-                    clean 3\n";
+                    clean 3\n\
+                    met 0 0 3\n\
+                    met 0 1 0\n\
+                    total 3\n";
     assert_eq!(
         sheet(text, &[0x0123_4567_89ab_cdef, u64::MAX, u64::MAX]),
         expected

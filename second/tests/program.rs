@@ -4,7 +4,7 @@ use std::path::PathBuf;
 use std::process::{Command, Output};
 
 const TEXT: &[u8] = b"input a; p -> a; monitor p;";
-const SHEET: &[u8] = b"rows 1 letters 1\n0 0000000000000001 ok\nclean 1\n";
+const SHEET: &[u8] = b"rows 1 letters 1\n0 0000000000000001 ok\nclean 1\nmet 0 0 1\ntotal 1\n";
 
 /// Writes a file for one test; each test needs names of its own.
 fn file(name: &str, bytes: &[u8]) -> PathBuf {
@@ -44,7 +44,8 @@ fn sheet_prints_the_sheet_of_two_files() {
 fn a_file_that_cannot_be_read_counts_as_empty() {
     let missing = PathBuf::from(env!("CARGO_TARGET_TMPDIR")).join("no such file");
     let output = second("sheet", &[file("rules alone", TEXT), missing.clone()]);
-    assert_eq!(output.stdout, b"rows 1 letters 1\nclean 0\n");
+    let no_ticks = b"rows 1 letters 1\nclean 0\nmet 0 0 0\ntotal 0\n";
+    assert_eq!(output.stdout, no_ticks);
     let output = second("sheet", &[missing.clone(), missing]);
     assert_eq!(output.stdout, b"refused 3 0\n");
 }
@@ -69,8 +70,11 @@ fn cases_names_each_difference() {
     ]
     .concat();
     let output = second("cases", &[file("wrong case", &cases)]);
-    let expected = "wrong: expected \"clean 1\\n\", came \"1 0000000000000000 bad 0\\n\"\n\
-                    1 passed, 1 failed\n";
+    let foot = "met 0 0 1\\ntotal 1\\n";
+    let expected = format!(
+        "wrong: expected \"clean 1\\n{foot}\", came \"1 0000000000000000 bad 0\\n{foot}\"\n\
+         1 passed, 1 failed\n"
+    );
     assert_eq!(String::from_utf8_lossy(&output.stdout), expected);
     assert_eq!(output.status.code(), Some(1));
 }

@@ -11,7 +11,13 @@ fn the_sample_sheet() {
     let expected = "rows 9 letters 5\n\
                     0 0000000000000001 ok\n\
                     1 0000000000000000 ok\n\
-                    2 0000000000000000 bad 0\n";
+                    2 0000000000000000 bad 0\n\
+                    met 0 0 1\n\
+                    met 0 1 0\n\
+                    met 0 2 1\n\
+                    met 0 3 0\n\
+                    met 0 4 1\n\
+                    total 3\n";
     let sheet = second::sheet(text, &[0x01, 0x01, 0x01, 0x00, 0x00]);
     assert_eq!(String::from_utf8_lossy(&sheet), expected);
 }
@@ -66,12 +72,17 @@ fn store_rows() {
 
 #[test]
 fn no_words_fit_each_monitor() {
-    for expression in ["a", "a, b", "a @ b", "a || !a", "a*, b & !a"] {
-        let sheet = sheet(&abc(expression), &[]);
-        assert!(
-            sheet.ends_with("\nclean 0\n") && sheet.lines().count() == 2,
-            "{sheet}"
-        );
+    let alone = "clean 0\nmet 0 0 0\ntotal 0\n";
+    let two = "clean 0\nmet 0 0 0\nmet 0 1 0\ntotal 0\n";
+    for (expression, counts, end) in [
+        ("a", "rows 1 letters 1\n", alone),
+        ("a, b", "rows 3 letters 2\n", two),
+        ("a @ b", "rows 3 letters 2\n", two),
+        ("a || !a", "rows 3 letters 2\n", two),
+        ("a*, b & !a", "rows 4 letters 2\n", two),
+    ] {
+        let expected = format!("{counts}{end}");
+        assert_eq!(sheet(&abc(expression), &[]), expected, "{expression}");
     }
 }
 

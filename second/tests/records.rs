@@ -2,7 +2,7 @@
 
 mod common;
 
-use common::Numbers;
+use common::{cut_foot, Numbers};
 use second::record::{read, write, Record, LONGEST};
 use second::{Place, Reason, Refusal};
 
@@ -92,7 +92,7 @@ fn sheets_name_the_tick() {
     let text = b"input D[63:0]; p -> D[0] || !D[0]; monitor p;";
     let line = |trace: &[u8]| {
         let sheet = String::from_utf8(second::sheet(text, trace)).unwrap();
-        sheet.lines().last().unwrap().to_string()
+        cut_foot(&sheet).0.last().unwrap().to_string()
     };
     assert_eq!(line(&[1]), "refused 13 0");
     assert_eq!(line(&[1, 1, 0, 3, 5]), "refused 13 2");

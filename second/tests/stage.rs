@@ -8,12 +8,12 @@ use second::batch::{self, Case};
 
 const SECOND: &str = env!("CARGO_BIN_EXE_second");
 const TEXT: &[u8] = b"input a; p -> a; monitor p;";
-const SHEET: &[u8] = b"rows 1 letters 1\n0 0000000000000001 ok\nclean 1\n";
+const SHEET: &[u8] = b"rows 1 letters 1\n0 0000000000000001 ok\nclean 1\nmet 0 0 1\ntotal 1\n";
 const REFUSED: &[u8] = b"refused 3 0\n";
 
 /// A look at 0, a take of 1, and what they answer.
 const CALLS: &[u8] = b"L\0\0\0\0\0\0\0\0T\x01\0\0\0\0\0\0\0";
-const ANSWERS: &[u8] = b"rows 1 letters 1\nlook bad 0\ntake ok touched 1\n";
+const ANSWERS: &[u8] = b"rows 1 letters 1\nlook bad 0\ntake ok touched 1\nmet 0 0 1\ntotal 1\n";
 
 /// The bytes of a case.
 fn case(kind: u8, strings: &[&[u8]]) -> Vec<u8> {
@@ -130,7 +130,8 @@ fn a_past_literal_is_answered() {
         case(b'S', &[b"2", held, &[0, 1, 2]]),
     ];
     let output = answered("past", &cases.concat());
-    let run = b"rows 1 letters 1\n0 0000000000000000 ok\n1 0000000000000002 bad 0\n";
+    let run = b"rows 1 letters 1\n0 0000000000000000 ok\n1 0000000000000002 bad 0\n\
+                met 0 0 1\ntotal 1\n";
     let expected = [
         string(b"refused 6 40\n"),
         string(b"refused 12 0 0\n"),
@@ -312,7 +313,8 @@ fn more_than_a_pipe_holds_goes_both_ways() {
     let text = b"input a; p -> a || !a; monitor p;";
     let large = case(b'S', &[b"2", text, &trace]);
     let answer = second::sheet(text, &trace);
-    assert!(answer.ends_with(b"clean 9000\n"));
+    let end = b"\nclean 9000\nmet 0 0 4500\nmet 0 1 4500\ntotal 9000\n";
+    assert!(answer.ends_with(end));
     let entries = entry("large", large, &answer).repeat(100);
     let printed = staged(&file("stage large", &entries), &[SECOND, "--batch"]);
     assert_eq!(printed, ("100 passed, 0 failed\n".to_string(), Some(0)));

@@ -6,13 +6,15 @@ extern "C" {
     fn linewatch_write_record(before: u64, word: u64, out: *mut u8, out_length: usize) -> usize;
 }
 
-/// No sheet is longer than this: it has at most 1,000,000 ticks, each a line of at most 64 bytes, and two lines more.
-const LONGEST_SHEET: usize = 64_001_000;
+/// Room that is enough for every sheet: so much for its first line, its end and the lines of 256 letters at its foot, and so much for each tick. A tick
+/// has at least one byte of the trace, and there are at most a million.
+const ROOM: usize = 6_400;
+const ROOM_OF_TICK: usize = 64;
+const MOST_TICKS: usize = 1_000_000;
 
 /// The printed sheet of a rule text and a trace.
 pub fn sheet(text: &[u8], trace: &[u8]) -> Vec<u8> {
-    let room = trace.len().saturating_mul(64).saturating_add(192).min(LONGEST_SHEET);
-    let mut sheet = vec![0; room];
+    let mut sheet = vec![0; ROOM + ROOM_OF_TICK * trace.len().min(MOST_TICKS)];
     let length = unsafe { linewatch_sheet(text.as_ptr(), text.len(), trace.as_ptr(), trace.len(), sheet.as_mut_ptr(), sheet.len()) };
     sheet.truncate(length);
     sheet

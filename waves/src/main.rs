@@ -1,5 +1,5 @@
-//! The program: `waves check`, `waves trace`, `waves vcd` and `waves svg`. The result goes to standard output. A fault goes to standard error with exit status 1 and
-//! leaves standard output empty; the wrong arguments are answered with how to use the program and exit status 2.
+//! The program: `waves check`, `waves trace`, `waves vcd`, `waves svg` and `waves totals`. The result goes to standard output. A fault goes to standard
+//! error with exit status 1 and leaves standard output empty; the wrong arguments are answered with how to use the program and exit status 2.
 
 use std::ffi::OsString;
 use std::io::Write;
@@ -7,13 +7,14 @@ use std::path::{Path, PathBuf};
 use std::process::ExitCode;
 use waves::rules::{Rules, Wire};
 use waves::sheet::Sheet;
-use waves::{library, rules, sheet, svg, table, vcd};
+use waves::{library, rules, sheet, svg, table, totals, vcd};
 
-const USAGE: &str = "usage: waves check RULES                 says whether the rule text is accepted
-       waves trace RULES TABLE           writes the trace of a table
+const USAGE: &str = "usage: waves check RULES                   says whether the rule text is accepted
+       waves trace RULES TABLE             writes the trace of a table
        waves vcd RULES TRACE SHEET         writes a waveform for wave viewers
        waves svg RULES TRACE SHEET         draws the last 64 ticks
-       waves svg RULES TRACE SHEET FROM TO draws the ticks from one to another";
+       waves svg RULES TRACE SHEET FROM TO draws the ticks from one to another
+       waves totals RULES TRACE SHEET      tells how often each letter was met";
 
 fn main() -> ExitCode {
     let arguments: Vec<PathBuf> = std::env::args_os().skip(1).map(PathBuf::from).collect();
@@ -39,6 +40,7 @@ fn run(arguments: &[PathBuf]) -> Option<Result<Vec<u8>, String>> {
         ("vcd", [rules, trace, sheet]) => Some(vcd(rules, trace, sheet)),
         ("svg", [rules, trace, sheet]) => Some(svg(rules, trace, sheet, None)),
         ("svg", [rules, trace, sheet, from, to]) => Some(svg(rules, trace, sheet, Some([from, to]))),
+        ("totals", [rules, trace, sheet]) => Some(totals(rules, trace, sheet)),
         _ => None,
     }
 }
@@ -73,6 +75,11 @@ fn svg(rules_file: &Path, trace: &Path, sheet: &Path, chosen: Option<[&PathBuf; 
     };
     let name = rules_file.file_name().map(OsString::from).unwrap_or_default();
     Ok(svg::write(&name.to_string_lossy(), &rules, &sheet, ticks).into_bytes())
+}
+
+fn totals(rules: &Path, trace: &Path, sheet: &Path) -> Result<Vec<u8>, String> {
+    let (rules, sheet) = judged(rules, trace, sheet)?;
+    Ok(totals::write(&rules, &sheet)?.into_bytes())
 }
 
 /// The rules and the sheet, if the file with the sheet says what the library says.

@@ -3,7 +3,7 @@
 //! This is no reader of the grammar. The library is asked first, and only texts that it accepts (or refuses with 8 to 12, which come after the whole
 //! text was read) get here. In these `input` and `monitor` are reserved words, so each token `input` is followed by a name and then by `;` or by
 //! `[ h : 0 ] ;`, and the one token `monitor` is followed by the names of the monitors up to `;`. A number is always followed by a sign there, so a
-//! run of letters, digits and `_` is one token. Nothing else of the text is needed.
+//! run of letters, digits and `_` is one token. Nothing else of the text is needed here; `letters` reads the productions.
 
 use crate::{library, refusals};
 
@@ -40,11 +40,12 @@ impl Wire {
     }
 }
 
-/// The wires of a text from bit 0 on, and its monitors from number 0 on.
+/// The wires of a text from bit 0 on, its monitors from number 0 on, and the text itself.
 #[derive(Debug, PartialEq)]
 pub struct Rules {
     pub wires: Vec<Wire>,
     pub monitors: Vec<String>,
+    pub text: String,
 }
 
 /// Wires and monitors of a text that the library accepts, or why it refuses the text.
@@ -83,18 +84,24 @@ fn in_brackets(text: &[u8], monitor: usize) -> String {
     names(text).and_then(|rules| rules.monitors.get(monitor).map(|name| format!(" ({name})"))).unwrap_or_default()
 }
 
-/// A byte of a text, with its line and column from 1 on. All bytes before the place are tokens or white space, so each is a character.
+/// A byte of a text, with its line and column.
 fn at_byte(text: &[u8], byte: usize) -> String {
-    let before = &text[..byte.min(text.len())];
-    let line = 1 + before.iter().filter(|&&b| b == b'\n').count();
-    let column = 1 + before.iter().rev().take_while(|&&b| b != b'\n').count();
+    let (line, column) = line_and_column(text, byte);
     let end = if byte == text.len() { ", the end of the text" } else { "" };
     format!(" at byte {byte}, line {line}, column {column}{end}")
 }
 
+/// The line and the column of a byte, from 1 on. All bytes before the place are tokens or white space, so each is a character.
+pub fn line_and_column(text: &[u8], byte: usize) -> (usize, usize) {
+    let before = &text[..byte.min(text.len())];
+    let line = 1 + before.iter().filter(|&&b| b == b'\n').count();
+    let column = 1 + before.iter().rev().take_while(|&&b| b != b'\n').count();
+    (line, column)
+}
+
 fn names(text: &[u8]) -> Option<Rules> {
     let text = std::str::from_utf8(text).ok()?;
-    let mut rules = Rules { wires: Vec::new(), monitors: Vec::new() };
+    let mut rules = Rules { wires: Vec::new(), monitors: Vec::new(), text: String::from(text) };
     let mut low = 0;
     let mut rest = tokens(text).into_iter();
     while let Some(token) = rest.next() {
@@ -110,15 +117,19 @@ fn names(text: &[u8]) -> Option<Rules> {
     Some(rules)
 }
 
-/// The tokens of a text, except that a sign of two characters is cut in two.
 fn tokens(text: &str) -> Vec<&str> {
+    placed_tokens(text).into_iter().map(|(_, token)| token).collect()
+}
+
+/// The tokens of a text, each behind the byte at which it begins, except that a sign of two characters is cut in two.
+pub fn placed_tokens(text: &str) -> Vec<(usize, &str)> {
     let in_name = |c: char| c.is_ascii_alphanumeric() || c == '_';
     let mut tokens = Vec::new();
     let mut rest = text.trim_start();
     while let Some(first) = rest.chars().next() {
         let end = if in_name(first) { rest.find(|c| !in_name(c)).unwrap_or(rest.len()) } else { first.len_utf8() };
         let (token, behind) = rest.split_at(end);
-        tokens.push(token);
+        tokens.push((text.len() - rest.len(), token));
         rest = behind.trim_start();
     }
     tokens

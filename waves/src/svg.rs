@@ -370,7 +370,7 @@ mod tests {
     use super::*;
 
     fn clean(ticks: usize) -> Sheet {
-        Sheet { words: vec![0; ticks], end: End::Clean }
+        Sheet { words: vec![0; ticks], end: End::Clean, met: vec![] }
     }
 
     #[test]
@@ -378,7 +378,7 @@ mod tests {
         assert_eq!(last_ticks(&clean(0)), 0..0);
         assert_eq!(last_ticks(&clean(64)), 0..64);
         assert_eq!(last_ticks(&clean(100)), 36..100);
-        assert_eq!(last_ticks(&Sheet { words: vec![0; 100], end: End::Refused(13) }), 37..101);
+        assert_eq!(last_ticks(&Sheet { words: vec![0; 100], end: End::Refused(13), met: vec![] }), 37..101);
     }
 
     #[test]
@@ -408,7 +408,7 @@ mod tests {
     #[test]
     fn runs_are_cut_at_the_ticks_shown() {
         let wire = Wire { name: String::from("f"), low: 0, width: 4 };
-        let sheet = Sheet { words: vec![1, 1, 2, 2, 2, 3], end: End::Refused(13) };
+        let sheet = Sheet { words: vec![1, 1, 2, 2, 2, 3], end: End::Refused(13), met: vec![] };
         let shown: Vec<(Range<usize>, u64)> = runs(&wire, &sheet, &(1..7)).into_iter().map(|run| (run.ticks, run.value)).collect();
         assert_eq!(shown, [(1..2, 1), (2..5, 2), (5..6, 3)]);
     }

@@ -211,7 +211,7 @@ fn shows_the_words(elements: &[Element], case: &Case, rules: &Rules, ticks: &Ran
     assert_eq!(labels.len(), rules.wires.len().max(1), "{name}: labels");
 }
 
-/// The heading that the sheet's last line asks for, and the word at the marked column.
+/// The heading that the last line above the sheet's foot asks for, and the word at the marked column.
 fn verdict(case: &Case, rules: &Rules) -> (String, Option<&'static str>) {
     let line = case.last_line();
     match line.iter().map(String::as_str).collect::<Vec<&str>>()[..] {

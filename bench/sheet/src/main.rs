@@ -83,7 +83,7 @@ fn compare(name: &str, text: &[u8], drawn: impl Fn(u64, u64) -> u64) {
     let program = second::open(text).expect("the text is accepted");
     let trace = records(&words(text, drawn));
     let right = second::sheet(text, &trace);
-    let mut range = vec![1; 64 * (TICKS + 4)];
+    let mut range = vec![1; 6400 + 64 * TICKS];
     let length = proved(text, &trace, &mut range);
     assert!(range[..length] == right[..], "{name}: the sheets differ");
     let (mut ours, mut theirs) = (f64::MAX, f64::MAX);
@@ -180,7 +180,7 @@ fn linear() {
     for (n, last) in [(16, true), (33, true), (66, true), (133, true), (255, true), (255, false)] {
         let text = stars(n);
         let trace = records(&vec![if last { n as u64 } else { 0 }; TICKS]);
-        let mut range = vec![1; 64 * (TICKS + 4)];
+        let mut range = vec![1; 6400 + 64 * TICKS];
         let mut best = f64::MAX;
         for _ in 0..RUNS {
             let start = Instant::now();

@@ -37,11 +37,12 @@ fn text_room() -> [u8; 16385]
     [0; 16385]
 }
 
-// Room for what a piece prints: each of its 4,096 bytes at most a record, whose line has at most 31 bytes.
-fn sheet_room() -> [u8; 131072]
-    ensures { λ r. ⌜ 131072 ≡ length r ⌝ }
+// Room for what a piece prints: each of its 4,096 bytes at most a record, whose line has at most 31 bytes; and the totals
+// behind them, at most 24 bytes for each of 256 letters, and their sum.
+fn sheet_room() -> [u8; 139264]
+    ensures { λ r. ⌜ 139264 ≡ length r ⌝ }
 {
-    [0; 131072]
+    [0; 139264]
 }
 
 // Fills the buffer from a file: how many bytes there were.
@@ -121,12 +122,12 @@ fn watch_trace(fd: i32, watch: Watch) {
         kept = keep(&mut buffer, ran.used, all);
         pieces += 1;
     }
-    end(now.ticks, kept);
+    end(now, kept);
 }
 
-// Prints the last line.
-fn end(ticks: u64, left: usize) {
-    let mut line = [0u8; 128];
-    let at = finish(ticks, left, &mut line);
-    print(&line, at);
+// Prints the last lines.
+fn end(watch: Watch, left: usize) {
+    let mut lines = [0u8; 8192];
+    let at = finish(watch, left, &mut lines);
+    print(&lines, at);
 }

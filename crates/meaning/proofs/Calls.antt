@@ -15,7 +15,7 @@ use Rattle.meaning.specs.Expression.{Exp}
 use Rattle.meaning.specs.ShapeTests.{AllRead}
 use Rattle.meaning.specs.Fit.{Verdict, ok as clean, bad as broken, History, start, onward, history, judged}
 use Rattle.meaning.specs.Positions.{opened, answer, moved, machineReplies}
-use Rattle.meaning.specs.Calls.{Call, look, take, wordOf, Reply, ok, bad, refused, replyOf, mostTicks, isFull, isStray, State, opening, reply, after, afterCall, repliesFrom, stateFrom, replies, standing, isOk, isBad, isRefused, taken, takenReplies, judgedWords, Rightly, AllRightly}
+use Rattle.meaning.specs.Calls.{Call, look, take, wordOf, Reply, ok, bad, refused, replyOf, mostTicks, isFull, isStray, State, opening, reply, after, afterCall, repliesFrom, stateFrom, replies, isOk, isBad, isRefused, taken, takenReplies, judgedWords, Rightly, AllRightly}
 use Rattle.meaning.proofs.ListLaws.{carry-append, clash}
 use Rattle.meaning.proofs.Watch.{AllAccepted, Tracks, opened-tracks, same-verdict, same-move}
 use Rattle.meaning.proofs.Accept.{accept-all}
@@ -287,7 +287,7 @@ module _ {S R : Type 0} (judge : S → ℕ → Verdict) (move : S → ℕ → S)
       subst (λ k. Alike Like (stateFrom judge move wires (afterCall move x c k) cs) (stateFrom judge′ move′ wires (afterCall move′ y c (reply judge′ wires y (wordOf c))) cs))
       (sym (same-reply x y a (wordOf c))) (same-states cs _ _ (call-alike x y a c))
 
--- The machine over monitors that were not turned away replies to each list of calls as their meaning does, and stands then where that does.
+-- The machine over monitors that were not turned away replies to each list of calls as their meaning does.
 module _ (ms : List Exp) (read : AllRead ms) (initial : List ℕ) (wires : ℕ) (cs : List Call) where
   accepted : AllAccepted ms
   accepted = accept-all ms read
@@ -295,11 +295,5 @@ module _ (ms : List Exp) (read : AllRead ms) (initial : List ℕ) (wires : ℕ) 
   pub calls-right : machineReplies ms initial wires cs ≡ replies ms initial wires cs
   calls-right =
       same-replies (answer ms) (moved ms) (judged ms) (onward ms) (λ v h. Tracks ms h v)
-      (λ v h t w. same-verdict ms accepted h v t w) (λ v h t w p. same-move ms accepted h v t w p) wires
-      cs (opening (opened ms initial)) (opening (start initial)) (opened-tracks ms initial, refl, refl)
-
-  pub states-right : Alike (λ v h. Tracks ms h v) (stateFrom (answer ms) (moved ms) wires (opening (opened ms initial)) cs) (standing ms initial wires cs)
-  states-right =
-      same-states (answer ms) (moved ms) (judged ms) (onward ms) (λ v h. Tracks ms h v)
       (λ v h t w. same-verdict ms accepted h v t w) (λ v h t w p. same-move ms accepted h v t w p) wires
       cs (opening (opened ms initial)) (opening (start initial)) (opened-tracks ms initial, refl, refl)

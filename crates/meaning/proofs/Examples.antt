@@ -18,7 +18,8 @@ use Rattle.meaning.specs.Opening.{Opened, counts, countsOf, asOpened, to
 use Rattle.meaning.specs.Calls.{Call, Reply, reply, repliesFrom, replies}
 use Rattle.trace.specs.Record.{digit, number, count, picked, recordOf, differs, changes, written, newByte, merged, idle, readRecord}
 use Rattle.trace.specs.Whole.{writeAll, writeTrace}
-use Rattle.meaning.specs.Sheet.{sheet, tickLines, cleanLine, countsLine, refusalLine, line, decimal, digitsIn, hexadecimal}
+use Rattle.meaning.specs.Totals.{metFrom}
+use Rattle.meaning.specs.Sheet.{sheet, tickLines, cleanLine, countsLine, refusalLine, metLine, metLines, allMetLines, totalLine, foot, line, decimal, digitsIn, hexadecimal}
 use Rattle.meaning.specs.Examples.{Example, sample, examples, Dialogue, dialogues, Touching, touchings}
 
 abbrev Holds : Example → Type 0
@@ -29,8 +30,8 @@ AllHold [] = Unit {0}
 AllHold (x ∷ xs) = Holds x × AllHold xs
 
 pub examples-hold : AllHold examples
-unfolding own occupied choose onName onNumber ifName ifNumber unless byKind known newName notHere atToken isWhite isDigit isLetter run same lookup nameToken valueFrom numberToken signToken firstToken nextToken tokenAt tokensFrom tokensAt letters size rows renumbered meets merge rounds runs writeMet onward verdict nullable first last follow threads agree together unsatisfiable parts nullables openEnds ambiguous shape meetsWires declare storeTests literalName behindOperand behindLiteral step readOn read asOpened tooLong misshapen openProgram openText countsOf reply digit number count picked recordOf differs changes written newByte merged idle readRecord writeAll writeTrace sheet tickLines cleanLine countsLine refusalLine line decimal digitsIn hexadecimal
-examples-hold = (refl, (refl, (refl, (refl, (refl, (refl, (refl, (refl, (refl, (refl, (refl, (refl, (refl, (refl, (refl, (refl, (refl, (refl, (refl, (refl, (refl, (refl, (refl, (refl, (refl, (refl, (refl, (refl, tt))))))))))))))))))))))))))))
+unfolding own occupied choose onName onNumber ifName ifNumber unless byKind known newName notHere atToken isWhite isDigit isLetter run same lookup nameToken valueFrom numberToken signToken firstToken nextToken tokenAt tokensFrom tokensAt letters size rows renumbered meets merge rounds runs writeMet onward verdict nullable first last follow threads agree together unsatisfiable parts nullables openEnds ambiguous shape meetsWires declare storeTests literalName behindOperand behindLiteral step readOn read asOpened tooLong misshapen openProgram openText countsOf reply digit number count picked recordOf differs changes written newByte merged idle readRecord writeAll writeTrace sheet tickLines cleanLine countsLine refusalLine metFrom metLine metLines allMetLines totalLine foot line decimal digitsIn hexadecimal
+examples-hold = (refl, (refl, (refl, (refl, (refl, (refl, (refl, (refl, (refl, (refl, (refl, (refl, (refl, (refl, (refl, (refl, (refl, (refl, (refl, (refl, (refl, (refl, (refl, (refl, (refl, (refl, (refl, (refl, (refl, (refl, (refl, tt)))))))))))))))))))))))))))))))
 
 -- looks and takes on the watch that a text opens, and none on one that it does not
 abbrev repliesTo : Answer Opened → List Call → List Reply
@@ -76,7 +77,7 @@ pub empty-fits : (m : Exp) → fits m [] ≡ true
 unfolding runs rounds
 empty-fits m = refl
 
--- P7: its sheet ends with `clean 0`
-pub nothing-yet : (text : List ℕ) (o : Opened) → openText text ≡ value o → sheet text [] ≡ countsLine (counts o) ++ cleanLine 0
-unfolding sheet tickLines countsOf
+-- P7 and P10: its sheet has `clean 0`, and at its foot every letter with 0
+pub nothing-yet : (text : List ℕ) (o : Opened) → openText text ≡ value o → sheet text [] ≡ countsLine (counts o) ++ (cleanLine 0 ++ foot (map (λ m. map (λ l. 0) (letters m)) (o .monitors)))
+unfolding sheet tickLines countsOf metFrom
 nothing-yet text o e = rw e

@@ -97,3 +97,5 @@ pub mod CountingLaws
 pub mod TouchedCount
 -- what walks from the letters met may spend, each from its own, is at most three times the touches of the tick
 pub mod Spent
+-- how often letters were met: one tick more, and the same sum over letters and over ticks
+pub mod Totals

@@ -29,19 +29,19 @@ abbrev pub proving : List Example
 proving =
     abc "(a*)*" [] "refused 10 0 0\n"
     ∷ abc "a*" [] "refused 10 0 0\n"
-    ∷ abc "a, a" [] "rows 3 letters 2\nclean 0\n"
+    ∷ abc "a, a" [] "rows 3 letters 2\nclean 0\nmet 0 0 0\nmet 0 1 0\ntotal 0\n"
     ∷ abc "a*, a" [] "refused 12 0 0\n"
     ∷ abc "a, b || a, c" [] "refused 12 0 0\n"
     ∷ abc "a @ (b, c*)" [] "refused 11 0 1\n"
     ∷ abc "a & !a" [] "refused 9 0 0\n"
     ∷ abc "a @ (b, c)" (1 ∷ 3 ∷ 7 ∷ [])
-    "rows 5 letters 3\n0 0000000000000001 ok\n1 0000000000000003 ok\n2 0000000000000007 bad 0\n"
+    "rows 5 letters 3\n0 0000000000000001 ok\n1 0000000000000003 ok\n2 0000000000000007 bad 0\nmet 0 0 2\nmet 0 1 1\nmet 0 2 0\ntotal 3\n"
     ∷ abc "a @ (b, c)" (1 ∷ 3 ∷ 3 ∷ [])
-    "rows 5 letters 3\n0 0000000000000001 ok\n1 0000000000000003 ok\n2 0000000000000003 bad 0\n"
+    "rows 5 letters 3\n0 0000000000000001 ok\n1 0000000000000003 ok\n2 0000000000000003 bad 0\nmet 0 0 2\nmet 0 1 1\nmet 0 2 0\ntotal 3\n"
     ∷ held "V {h <- D;}, V & D == h" (11 ∷ 11 ∷ [])
-    "rows 3 letters 2\n0 000000000000000b ok\n1 000000000000000b ok\nclean 2\n"
+    "rows 3 letters 2\n0 000000000000000b ok\n1 000000000000000b ok\nclean 2\nmet 0 0 1\nmet 0 1 1\ntotal 2\n"
     ∷ held "V {h <- D;}, V & D == h" (11 ∷ 13 ∷ [])
-    "rows 3 letters 2\n0 000000000000000b ok\n1 000000000000000d bad 0\n"
+    "rows 3 letters 2\n0 000000000000000b ok\n1 000000000000000d bad 0\nmet 0 0 1\nmet 0 1 0\ntotal 1\n"
     ∷ []
 
 -- P3 and P4: a sheet that ends with a bad tick
@@ -49,7 +49,7 @@ abbrev pub sample : Example
 sample = record {
   text = bytes "input SCAN;\ninput CUT;\nline -> SCAN @ (CUT || !CUT, CUT) || !SCAN;\nmonitor line;\n";
   words = 1 ∷ 0 ∷ 0 ∷ [];
-  sheet = bytes "rows 9 letters 5\n0 0000000000000001 ok\n1 0000000000000000 ok\n2 0000000000000000 bad 0\n";
+  sheet = bytes "rows 9 letters 5\n0 0000000000000001 ok\n1 0000000000000000 ok\n2 0000000000000000 bad 0\nmet 0 0 1\nmet 0 1 0\nmet 0 2 1\nmet 0 3 0\nmet 0 4 1\ntotal 3\n";
 }
 
 -- Misreadings of F11, F20, F17 and S8, each with words on which it would answer otherwise.
@@ -57,23 +57,23 @@ abbrev pub misreadings : List Example
 misreadings =
     -- a thread started before its left operand is known to have ended: `c` would be asked for at tick 1, and the watch would go bad there
     abc "(a, b*) @ c, !b" (1 ∷ 2 ∷ 2 ∷ 4 ∷ [])
-    "rows 8 letters 4\n0 0000000000000001 ok\n1 0000000000000002 ok\n2 0000000000000002 ok\n3 0000000000000004 ok\nclean 4\n"
+    "rows 8 letters 4\n0 0000000000000001 ok\n1 0000000000000002 ok\n2 0000000000000002 ok\n3 0000000000000004 ok\nclean 4\nmet 0 0 1\nmet 0 1 2\nmet 0 2 1\nmet 0 3 1\ntotal 5\n"
     -- a test that sees a write of its own tick: D would equal h, and tick 0 would be ok
-    ∷ held "V & D == h {h <- D;}" (11 ∷ []) "rows 1 letters 1\n0 000000000000000b bad 0\n"
+    ∷ held "V & D == h {h <- D;}" (11 ∷ []) "rows 1 letters 1\n0 000000000000000b bad 0\nmet 0 0 0\ntotal 0\n"
     -- the older of two starts of a thread dropped: nobody would ask for its `c`, and tick 2 would be ok with this word
     ∷ abc "a @ (b, c)" (1 ∷ 3 ∷ 3 ∷ [])
-    "rows 5 letters 3\n0 0000000000000001 ok\n1 0000000000000003 ok\n2 0000000000000003 bad 0\n"
+    "rows 5 letters 3\n0 0000000000000001 ok\n1 0000000000000003 ok\n2 0000000000000003 bad 0\nmet 0 0 2\nmet 0 1 1\nmet 0 2 0\ntotal 3\n"
     -- `a, a` called a fork: the text would be refused with 12
-    ∷ abc "a, a" (1 ∷ 1 ∷ []) "rows 3 letters 2\n0 0000000000000001 ok\n1 0000000000000001 ok\nclean 2\n"
+    ∷ abc "a, a" (1 ∷ 1 ∷ []) "rows 3 letters 2\n0 0000000000000001 ok\n1 0000000000000001 ok\nclean 2\nmet 0 0 1\nmet 0 1 1\ntotal 2\n"
     ∷ []
 
 -- G21 and F22: before tick 0 every wire was 0; a field that moved; another name inside, at its byte
 abbrev pub pasts : List Example
 pasts =
-    abc "a == past(a) & b" (2 ∷ []) "rows 1 letters 1\n0 0000000000000002 ok\nclean 1\n"
-    ∷ abc "a == past(a) & b" (3 ∷ []) "rows 1 letters 1\n0 0000000000000003 bad 0\n"
+    abc "a == past(a) & b" (2 ∷ []) "rows 1 letters 1\n0 0000000000000002 ok\nclean 1\nmet 0 0 1\ntotal 1\n"
+    ∷ abc "a == past(a) & b" (3 ∷ []) "rows 1 letters 1\n0 0000000000000003 bad 0\nmet 0 0 0\ntotal 0\n"
     ∷ held "V & D == past(D) || !V" (10 ∷ 11 ∷ 13 ∷ [])
-    "rows 3 letters 2\n0 000000000000000a ok\n1 000000000000000b ok\n2 000000000000000d bad 0\n"
+    "rows 3 letters 2\n0 000000000000000a ok\n1 000000000000000b ok\n2 000000000000000d bad 0\nmet 0 0 1\nmet 0 1 1\ntotal 2\n"
     ∷ abc "a == past(b)" [] "refused 3 42\n"
     ∷ []
 
@@ -86,33 +86,46 @@ abbrev pub overlaps : List Example
 overlaps =
     -- two starts at one letter counted as one: tick 2 would be ok
     abc "a @ (b & !c*, c) || !a" (1 ∷ 3 ∷ 2 ∷ [])
-    "rows 8 letters 4\n0 0000000000000001 ok\n1 0000000000000003 ok\n2 0000000000000002 bad 0\n"
+    "rows 8 letters 4\n0 0000000000000001 ok\n1 0000000000000003 ok\n2 0000000000000002 bad 0\nmet 0 0 2\nmet 0 1 1\nmet 0 2 0\nmet 0 3 0\ntotal 3\n"
     -- a start counted on the tick after its last letter: tick 2 would be bad
     ∷ abc "a @ b" (1 ∷ 3 ∷ 3 ∷ [])
-    "rows 3 letters 2\n0 0000000000000001 ok\n1 0000000000000003 ok\n2 0000000000000003 ok\nclean 3\n"
+    "rows 3 letters 2\n0 0000000000000001 ok\n1 0000000000000003 ok\n2 0000000000000003 ok\nclean 3\nmet 0 0 3\nmet 0 1 2\ntotal 5\n"
     -- the inner thread's letters counted for the outer one: tick 2 would be bad, where one start of the outer thread requires `b` and the inner one, begun by the other, `c`;
     -- an inner thread of its own for each start of the outer one: tick 3 would be ok
     ∷ abc "a @ (b @ (c, c)) || !a" (1 ∷ 3 ∷ 6 ∷ 4 ∷ [])
-    "rows 9 letters 5\n0 0000000000000001 ok\n1 0000000000000003 ok\n2 0000000000000006 ok\n3 0000000000000004 bad 0\n"
+    "rows 9 letters 5\n0 0000000000000001 ok\n1 0000000000000003 ok\n2 0000000000000006 ok\n3 0000000000000004 bad 0\nmet 0 0 2\nmet 0 1 2\nmet 0 2 1\nmet 0 3 0\nmet 0 4 1\ntotal 6\n"
     -- two copies of a production taken for one thread: tick 2 would be bad
     ∷ with "a @ (b, c)" "p -> t, t || !a; monitor p;" (1 ∷ 3 ∷ 6 ∷ [])
-    "rows 13 letters 7\n0 0000000000000001 ok\n1 0000000000000003 ok\n2 0000000000000006 ok\nclean 3\n"
+    "rows 13 letters 7\n0 0000000000000001 ok\n1 0000000000000003 ok\n2 0000000000000006 ok\nclean 3\nmet 0 0 1\nmet 0 1 1\nmet 0 2 1\nmet 0 3 1\nmet 0 4 1\nmet 0 5 0\nmet 0 6 1\ntotal 6\n"
     -- two monitors with the same production taken for one thread: tick 1 would be bad
     ∷ with "a @ (b, c) || !a" "monitor t, t;" (1 ∷ 2 ∷ 4 ∷ [])
-    "rows 14 letters 8\n0 0000000000000001 ok\n1 0000000000000002 ok\n2 0000000000000004 ok\nclean 3\n"
+    "rows 14 letters 8\n0 0000000000000001 ok\n1 0000000000000002 ok\n2 0000000000000004 ok\nclean 3\nmet 0 0 1\nmet 0 1 1\nmet 0 2 1\nmet 0 3 2\nmet 1 0 1\nmet 1 1 1\nmet 1 2 1\nmet 1 3 2\ntotal 10\n"
     -- a thread of its own for each round of a star: tick 2 would be ok
     ∷ abc "(a @ (b, c))*, !a" (1 ∷ 3 ∷ 6 ∷ [])
-    "rows 8 letters 4\n0 0000000000000001 ok\n1 0000000000000003 ok\n2 0000000000000006 bad 0\n"
+    "rows 8 letters 4\n0 0000000000000001 ok\n1 0000000000000003 ok\n2 0000000000000006 bad 0\nmet 0 0 2\nmet 0 1 1\nmet 0 2 0\nmet 0 3 0\ntotal 3\n"
     -- two ways out of a star taken for two starts: tick 1 would be bad
     ∷ abc "(a, ((b & !c)* || (c & !b)*)) @ (!b, !b), !a & !b & !c" (1 ∷ 0 ∷ 1 ∷ [])
-    "rows 13 letters 6\n0 0000000000000001 ok\n1 0000000000000000 ok\n2 0000000000000001 ok\nclean 3\n"
+    "rows 13 letters 6\n0 0000000000000001 ok\n1 0000000000000000 ok\n2 0000000000000001 ok\nclean 3\nmet 0 0 2\nmet 0 1 0\nmet 0 2 0\nmet 0 3 1\nmet 0 4 1\nmet 0 5 1\ntotal 5\n"
     -- a branch that goes another way at tick 3 dropped with the one that starts the thread there: tick 3 would be bad
     ∷ abc "(a, b*) @ (c, c, c), !b" (1 ∷ 4 ∷ 5 ∷ 6 ∷ [])
-    "rows 12 letters 6\n0 0000000000000001 ok\n1 0000000000000004 ok\n2 0000000000000005 ok\n3 0000000000000006 ok\nclean 4\n"
+    "rows 12 letters 6\n0 0000000000000001 ok\n1 0000000000000004 ok\n2 0000000000000005 ok\n3 0000000000000006 ok\nclean 4\nmet 0 0 2\nmet 0 1 1\nmet 0 2 1\nmet 0 3 1\nmet 0 4 1\nmet 0 5 1\ntotal 7\n"
+    ∷ []
+
+-- F27, F28 and P10: the lines at the foot, each with a reading by which they would be others
+abbrev pub feet : List Example
+feet =
+    -- a bad tick counted for the monitors that fit it: letter 0 of monitor 0 would have been met twice
+    with "a" "p -> b; monitor t, p;" (3 ∷ 1 ∷ [])
+    "rows 2 letters 2\n0 0000000000000003 ok\n1 0000000000000001 bad 1\nmet 0 0 1\nmet 1 0 1\ntotal 2\n"
+    -- a tick counted for each branch that has the letter there, here two by no round of either star: letter 3 would have been met twice
+    ∷ abc "a, ((b & !c)* || (c & !b)*), !a & !b & !c" (1 ∷ 0 ∷ [])
+    "rows 9 letters 4\n0 0000000000000001 ok\n1 0000000000000000 ok\nclean 2\nmet 0 0 1\nmet 0 1 0\nmet 0 2 0\nmet 0 3 1\ntotal 2\n"
+    -- totals behind a refusal
+    ∷ abc "a" (1 ∷ 8 ∷ []) "rows 1 letters 1\n0 0000000000000001 ok\nrefused 15 1\n"
     ∷ []
 
 abbrev pub examples : List Example
-examples = proving ++ (sample ∷ misreadings ++ pasts ++ overlaps)
+examples = proving ++ (sample ∷ misreadings ++ pasts ++ overlaps ++ feet)
 
 -- ---- looks and takes
 

@@ -14,6 +14,7 @@ pub mod Table
 pub mod Numbered
 pub mod Fit
 pub mod Touched
+pub mod Totals
 pub mod Calls
 pub mod Sheet
 -- sheets of texts and traces, which the definitions above are computed to give

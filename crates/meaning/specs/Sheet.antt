@@ -1,4 +1,4 @@
--- The printed sheet (docs/REFERENCE.md, P1 to P8), as a list of bytes from the bytes of the rule text and of the trace. Assumes nothing.
+-- The printed sheet (docs/REFERENCE.md, P1 to P8 and P10), as a list of bytes from the bytes of the rule text and of the trace. Assumes nothing.
 use mathlib.Core.Bool.{cond}
 use mathlib.Core.List.{List, [], _∷_, _++_, map}
 use Prim.Native.Nat.{ℕ, zero, suc, _+_, _/_, _%_, _^_, _*_}
@@ -8,6 +8,7 @@ use Rattle.lexer.specs.Bytes.{bytes}
 use Rattle.meaning.specs.Answers.{Answer, value, refused, Place, byte, letterOf}
 use Rattle.meaning.specs.Opening.{Opened, Counts, countsOf, openText}
 use Rattle.meaning.specs.Fit.{History, start, onward, judged}
+use Rattle.meaning.specs.Totals.{totals, sum}
 use Rattle.meaning.specs.Calls as calls
 use Rattle.meaning.specs.Calls.{Reply, ok, bad, State, opening, reply, after}
 use Rattle.trace.specs.Answer as trace
@@ -67,33 +68,62 @@ firstLine (refused number place) = refusalLine number (placeNumbers place)
 abbrev tickLine : ℕ → ℕ → List (List ℕ) → List ℕ
 tickLine t w verdict = line (decimal t ∷ hexadecimal 16 w ∷ verdict)
 
--- P7: "the last line is `clean N`, N being their number"
+-- P7: "the next line is `clean N`, N being their number"
 unfoldable pub cleanLine : ℕ → List ℕ
 cleanLine n = line (bytes "clean" ∷ decimal n ∷ [])
 
+-- ---- the foot
+
+-- P10: "`met M L C`", with monitor, letter and how often it was met
+unfoldable pub metLine : (m l c : ℕ) → List ℕ
+metLine m l c = line (bytes "met" ∷ decimal m ∷ decimal l ∷ decimal c ∷ [])
+
+-- those of monitor m, from letter l on
+unfoldable pub metLines : (m l : ℕ) → List ℕ → List ℕ
+metLines m l [] = []
+metLines m l (c ∷ cs) = metLine m l c ++ metLines m (suc l) cs
+
+-- P10: "for each monitor and each of its letters, in their order", from monitor m on
+unfoldable pub allMetLines : (m : ℕ) → List (List ℕ) → List ℕ
+allMetLines m [] = []
+allMetLines m (cs ∷ css) = metLines m 0 cs ++ allMetLines (suc m) css
+
+-- P10: "then `total T`"
+unfoldable pub totalLine : ℕ → List ℕ
+totalLine n = line (bytes "total" ∷ decimal n ∷ [])
+
+-- P10: from how often each letter of each monitor was met
+unfoldable pub foot : List (List ℕ) → List ℕ
+foot css = allMetLines 0 css ++ totalLine (sum css)
+
 -- ---- the ticks
 
--- what tick t prints for the word w, and the lines behind it where it is ok; P5: "the tick that the record or word would have had (13 to 17)"
-abbrev onReply : Reply → ℕ → ℕ → List ℕ → List ℕ
-onReply ok t w rest = tickLine t w (bytes "ok" ∷ []) ++ rest
-onReply (bad m) t w rest = tickLine t w (bytes "bad" ∷ decimal m ∷ [])
-onReply (calls.refused number place) t w rest = refusalLine number (t ∷ [])
+-- what tick t prints for the word w: the lines behind it where it is ok, and those at the foot where it is bad; P5: "the tick that the record or word would have had (13 to 17)", and P10:
+-- "Behind a refusal stands nothing."
+abbrev onReply : Reply → ℕ → ℕ → (rest foot : List ℕ) → List ℕ
+onReply ok t w rest foot = tickLine t w (bytes "ok" ∷ []) ++ rest
+onReply (bad m) t w rest foot = tickLine t w (bytes "bad" ∷ decimal m ∷ []) ++ foot
+onReply (calls.refused number place) t w rest foot = refusalLine number (t ∷ [])
 
 -- what was read at tick t, and the lines for a word of so many bytes; P6: "Each record is read before its tick is judged."
-abbrev onItem : trace.Answer Item → ℕ → (ℕ → ℕ → List ℕ) → List ℕ
-onItem (trace.value (word w n)) t next = next w n
-onItem (trace.value end) t next = cleanLine t
-onItem (trace.refused number place) t next = refusalLine number (t ∷ [])
+abbrev onItem : trace.Answer Item → ℕ → (foot : List ℕ) → (ℕ → ℕ → List ℕ) → List ℕ
+onItem (trace.value (word w n)) t foot next = next w n
+onItem (trace.value end) t foot next = cleanLine t ++ foot
+onItem (trace.refused number place) t foot next = refusalLine number (t ∷ [])
+
+-- P10: "over the words that were ok"
+abbrev footAt : Opened → State History → List ℕ
+footAt o s = foot (totals (o .monitors) (s .inner .ticks))
 
 -- the lines from tick t on, where these bytes are left; a record has at least one byte (R1). P4: "the trace is read record by record, and the watch takes each
 -- word".
 unfoldable pub tickLines : ℕ → Opened → State History → ℕ → List ℕ → ℕ → List ℕ
-tickLines zero o s t rest before = cleanLine t
+tickLines zero o s t rest before = cleanLine t ++ footAt o s
 tickLines (suc k) o s t rest before =
-    onItem (readRecord rest before) t (λ w n.
+    onItem (readRecord rest before) t (footAt o s) (λ w n.
     let r = reply (judged (o .monitors)) (o .wires) s w in
     let more = tickLines k o (after (onward (o .monitors)) s w r) (suc t) (drop n rest) w in
-    onReply r t w more)
+    onReply r t w more (footAt o s))
 
 -- the lines behind the first; P3: "If the text is refused its refusal is the only line, whatever the trace holds."
 abbrev linesBehind : Answer Opened → List ℕ → List ℕ

@@ -1,21 +1,24 @@
 -- Every list of looks and takes on the watch of an accepted text gets the replies that the text's meaning fixes. Assumes nothing.
-use mathlib.Core.Path.{_≡_, refl, sym, ap, _∙_, subst, subst₂}
+use mathlib.Core.Path.{_≡_, refl, sym, ap, ap₂, _∙_, subst, subst₂}
 use mathlib.Core.Option.{Option, none}
 use mathlib.Core.Logic.{⊎-elim}
-use mathlib.Core.List.{List, [], _∷_, map}
-use Prim.Native.Nat.{ℕ, zero, suc, _+_, _<_, _≤_}
+use mathlib.Core.List.{List, [], _∷_, _++_, map}
+use Prim.Native.Nat.{ℕ, zero, suc, _+_, _<_, _≤_, min}
 use native.Mathlib.Omega.{arith}
 use lib.Dec.{T}
-use lib.ListN.{length, getD}
+use lib.ListN.{length, length-append, getD, drop, replicate, length-replicate}
+use lib.Seq.{sets-eq}
 use Rattle.meaning.specs.Lists.{_∈_, carry, total}
 use Rattle.meaning.specs.Answers.{value}
 use Rattle.meaning.specs.Expression.{Letter, Exp, star, letters, own, size, rows, renumbered, Ordered}
 use Rattle.meaning.specs.Numbered.{numberedFrom}
 use Rattle.meaning.specs.Shape.{threads}
 use Rattle.meaning.specs.ShapeTests.{agree, AllSized}
-use Rattle.meaning.specs.Fit.{Tick, meets, among, write}
+use Rattle.meaning.specs.Fit.{Tick, meets, among, write, History, start, tick, ok, judged}
+use Rattle.meaning.specs.Fit as fit
 use Rattle.meaning.specs.Positions as machine
 use Rattle.meaning.specs.Table.{Table}
+use Rattle.meaning.specs.Totals.{totals}
 use Rattle.meaning.specs.Calls.{Call, opening, stateFrom, replies, standing as stood}
 use Rattle.meaning.specs.Opening.{Opened, openText}
 use Rattle.meaning.proofs.ListLaws.{here, there, no-∈, cons-∈, map-∈, ∈-map}
@@ -24,16 +27,19 @@ use Rattle.meaning.proofs.Within.{LetterWithin}
 use Rattle.meaning.proofs.Walk.{a-row}
 use Rattle.meaning.proofs.Shifted.{shiftLetter, letters-renumbered}
 use Rattle.meaning.proofs.OneWay.{Closed}
-use Rattle.meaning.proofs.Calls.{Alike}
+use Rattle.meaning.proofs.Watch.{AllAccepted, Tracked, Tracks, opened-tracks, same-verdict}
+use Rattle.meaning.proofs.Watch as watch
+use Rattle.meaning.proofs.Accept.{accept-all}
+use Rattle.meaning.proofs.Calls.{Alike, same-states}
 use Rattle.meaning.proofs.Numbering.{renumbered-size, renumbered-rows}
-use Rattle.meaning.proofs.Openings.{machine-right, machine-stands, all-read, all-accepted}
+use Rattle.meaning.proofs.Openings.{machine-right, all-read, all-accepted}
 use Rattle.rules.specs.declared.Watch.{Watch}
 use Rattle.rules.specs.Cells.{Link}
 use Rattle.rules.specs.Laying.{slotWord, slotNumber, slotsOf}
 use Rattle.rules.specs.Watches.{watchOf}
 use Rattle.monitor.specs.Letters.{Given, letterMet, writeLetter}
-use Rattle.monitor.specs.Ticks.{steps, emptyMemory, shutBusy, stepWithin}
-use Rattle.monitor.specs.Calls.{Moving, givenOf, layoutOf, judge, onward, stateOf, withState, repliesOf, watchAfterAll, Held}
+use Rattle.monitor.specs.Ticks.{steps, emptyMemory, shutBusy, countMet, stepWithin}
+use Rattle.monitor.specs.Calls.{Moving, givenOf, layoutOf, stepFrom, judge, onward, stateOf, withState, totalsFrom, totalsIn, totalsOf, repliesOf, watchAfterAll, Held}
 use Rattle.monitor.proofs.Padded.{padded}
 use Rattle.monitor.proofs.Readable.{Readable, accepted-readable}
 use Rattle.monitor.proofs.Writers.{writers-enough}
@@ -45,8 +51,9 @@ use Rattle.monitor.proofs.Monitors.{AllStanding, all-go}
 use Rattle.monitor.proofs.ShutRows.{threads-shut, busy-shut}
 use Rattle.monitor.proofs.Moves.{AllWriteAs, MarksAll}
 use Rattle.monitor.proofs.Watching.{Steps, steps-right}
-use Rattle.monitor.proofs.Replies.{Like, watches-by, machine-replies, machine-states}
+use Rattle.monitor.proofs.Replies.{Like, watches-by, same-judgment, same-move, moved-on, machine-replies}
 use Rattle.monitor.proofs.Single.{one-marked}
+use Rattle.monitor.proofs.LetterTotals.{flat, shown, total-letters, tick-counted, none-counted, ticks-few, totals-split}
 use Rattle.monitor.proofs.Starts.{starts}
 use Rattle.monitor.proofs.Numbered.{programOf}
 use Rattle.monitor.proofs.LetterRows.{HeldAll}
@@ -179,6 +186,9 @@ module _ (text : List ℕ) (o : Opened) (e : openText text ≡ value o) where
   c : Program.Counted o
   c = Program.text-counted text o e
 
+  in-room : total size (o .monitors) ≤ 256
+  in-room = let a = c .few-letters in let b = c .letters-are in omega (arith, a, b)
+
   ordered : (m : Exp) → m ∈ o .monitors → Ordered 0 m
   ordered m i = all-read text o e m i .0
 
@@ -209,9 +219,6 @@ module _ (text : List ℕ) (o : Opened) (e : openText text ≡ value o) where
     abbrev Good : (K : List ℕ) → List ℕ → Type 0
     Good K = Memory (shutIn (first K)) (rowsOf (shutIn (first K)) steps (Program.tableOf o) (at w b σ)) (o .rowCount)
 
-    in-room : total size (o .monitors) ≤ 256
-    in-room = let a = c .few-letters in let b = c .letters-are in omega (arith, a, b)
-
     step-from : (K : List ℕ) (xs : List machine.Positions) → MarksAll K 0 0 (o .monitors) xs
         → Steps (o .monitors) (at w b σ) σ padded (length (o .initial)) (machine.goEach 0 (o .monitors) xs (at w b σ)) (stepWithin g (layoutOf v) K)
     unfolding v
@@ -240,7 +247,7 @@ module _ (text : List ℕ) (o : Opened) (e : openText text ≡ value o) where
   start-like : Like (o .monitors) padded (length (o .initial)) (stateOf v .inner) (machine.opened (o .monitors) (o .initial))
   unfolding v watchOf
   start-like = record {
-    marks = starts (length (o .monitors)) (c .few-monitors) (o .monitors) refl (let a = c .few-letters in let b = c .letters-are in omega (arith, a, b));
+    marks = starts (length (o .monitors)) (c .few-monitors) (o .monitors) refl in-room;
     values = refl;
     last = refl;
     long = refl;
@@ -257,40 +264,97 @@ module _ (text : List ℕ) (o : Opened) (e : openText text ≡ value o) where
       (machine.opened (o .monitors) (o .initial)) start-like cs
       ∙ machine-right text o e cs
 
-  -- after any list of calls it stands as the machine
-  states-like : (cs : List Call)
-      → Alike (Like (o .monitors) padded (length (o .initial))) (stateFrom (judge v) (onward v) (v .wires) (stateOf v) cs)
-      (stateFrom (machine.answer (o .monitors)) (machine.moved (o .monitors)) (o .wires) (opening (machine.opened (o .monitors) (o .initial))) cs)
-  unfolding v watchOf
-  states-like =
-      machine-states (o .monitors) padded (length (o .initial)) v (Program.monitors-counted o c) (c .few-monitors) few-letters step-right (stateOf v)
-      (machine.opened (o .monitors) (o .initial)) start-like
+  -- What moves follows the words of h: some machine is like it and tracks them, and each letter is counted as often as it was met, as long as 32 bits can tell.
+  record Follows (s : Moving) (h : History) : Type 0 where
+    pub by : machine.Watch
+    pub like : Like (o .monitors) padded (length (o .initial)) s by
+    pub tracks : Tracks (o .monitors) h by
+    pub counted : length (h .ticks) < 4294967296 → s .totals ≡ shown (flat (o .monitors) (h .ticks))
 
-  -- its marks are then the machine's positions
-  pub marks-right : (cs : List Call) → MarksAll (watchAfterAll (watchOf (value o)) cs .marks) 0 0 (o .monitors)
-      (stateFrom (machine.answer (o .monitors)) (machine.moved (o .monitors)) (o .wires) (opening (machine.opened (o .monitors) (o .initial))) cs .inner .positions)
+  accepted : AllAccepted (o .monitors)
+  accepted = accept-all (o .monitors) (all-read text o e)
+
+  judges : (s : Moving) (h : History) → Follows s h → (w : ℕ) → judge v s w ≡ judged (o .monitors) h w
   unfolding v
-  marks-right cs = rw (watches-by v (stateOf v) cs) (states-like cs .0 .marks)
+  judges s h f w =
+      same-judgment (o .monitors) padded (length (o .initial)) v (Program.monitors-counted o c) (c .few-monitors) few-letters step-right s (f .by) (f .like) w
+      ∙ same-verdict (o .monitors) accepted h (f .by) (f .tracks) w
 
-  -- After any list of calls the watch has the tick count, the stop, the word before and the store values that the meaning fixes, zeros behind these; all else but the marks is
-  -- as it was opened.
-  pub watch-held : (cs : List Call) → Held (watchOf (value o)) (watchAfterAll (watchOf (value o)) cs) (stood (o .monitors) (o .initial) (o .wires) cs)
+  moves : (s : Moving) (h : History) → Follows s h → (w : ℕ) → judged (o .monitors) h w ≡ ok → Follows (onward v s w) (fit.onward (o .monitors) h w)
+  unfolding v fit.onward
+  moves s h f w p =
+      let q = same-verdict (o .monitors) accepted h (f .by) (f .tracks) w ∙ p in
+      let l = same-move (o .monitors) padded (length (o .initial)) v (Program.monitors-counted o c) (c .few-monitors) few-letters step-right s (f .by) (f .like) w q in
+      let t = watch.same-move (o .monitors) accepted h (f .by) (f .tracks) w p in
+      let (nss, k) = moved-on (o .monitors) (f .by) w q in
+      let all : min (v .letters) 256 ≡ total size (o .monitors) = (let a = few-letters in let b = Program.letters-counted o c in let d = c .letters-are in omega (arith, a, b, d)) in
+      record {
+        by = machine.moved (o .monitors) (f .by) w;
+        like = l;
+        tracks = t;
+        counted = λ few.
+            let d = length-append (h .ticks) (tick h w ∷ []) in
+            ap₂ (countMet (stepFrom v s w .marks)) all (f .counted (omega (arith, few, d)))
+            ∙ tick-counted (stepFrom v s w .marks) (h .ticks) (tick h w) (omega (arith, few, d)) (o .monitors) nss in-room (λ m i. (ordered m i, all-accepted text o e m i))
+            (subst (λ xs. MarksAll (stepFrom v s w .marks) 0 0 (o .monitors) xs) k (l .marks)) (subst (λ xs. Tracked (o .monitors) (h .ticks ++ tick h w ∷ []) xs) k (t .0));
+      }
+
+  begins : Follows (stateOf v .inner) (start (o .initial))
+  unfolding v watchOf
+  begins = record {
+    by = machine.opened (o .monitors) (o .initial);
+    like = start-like;
+    tracks = opened-tracks (o .monitors) (o .initial);
+    counted = λ few. none-counted (o .monitors);
+  }
+
+  follows : (cs : List Call) → Alike Follows (stateFrom (judge v) (onward v) (v .wires) (stateOf v) cs) (stood (o .monitors) (o .initial) (o .wires) cs)
+  unfolding v watchOf
+  follows cs =
+      same-states (judge v) (onward v) (judged (o .monitors)) (fit.onward (o .monitors)) Follows judges moves (o .wires) cs (stateOf v) (opening (start (o .initial)))
+      (begins, refl, refl)
+
+  -- after any list of calls the marks are positions that track the words
+  pub marks-right : (cs : List Call) → (xs : List machine.Positions) × MarksAll (watchAfterAll (watchOf (value o)) cs .marks) 0 0 (o .monitors) xs
+      × Tracked (o .monitors) (stood (o .monitors) (o .initial) (o .wires) cs .inner .ticks) xs
+  unfolding v
+  marks-right cs = let f = follows cs .0 in (f .by .positions, rw (watches-by v (stateOf v) cs) (f .like .marks), f .tracks .0)
+
+  -- After any list of calls the watch has the tick count, the stop, the word before, the store values and the letters' totals that the meaning fixes, zeros behind these; all else
+  -- but the marks is as it was opened.
+  pub watch-held : (cs : List Call) → Held (o .monitors) (watchOf (value o)) (watchAfterAll (watchOf (value o)) cs) (stood (o .monitors) (o .initial) (o .wires) cs)
   unfolding v watchOf
   watch-held cs =
-      let (l, n, b) = states-like cs in
-      let (t, k, q) = machine-stands text o e cs in
+      let (f, n, b) = follows cs in
       let w = watches-by v (stateOf v) cs in
       record {
         tables = w ∙ ap (withState v) (sym (ap stateOf w));
-        ticks = ap (λ (u : Watch). u .ticks) w ∙ n ∙ k;
-        stopped = ap (λ (u : Watch). u .stopped) w ∙ b ∙ q;
-        before = ap (λ (u : Watch). u .before) w ∙ l .last ∙ sym (t .1);
-        values = ap (λ (u : Watch). u .values) w ∙ l .values ∙ ap padded (sym (t .2));
+        ticks = ap (λ (u : Watch). u .ticks) w ∙ n;
+        stopped = ap (λ (u : Watch). u .stopped) w ∙ b;
+        before = ap (λ (u : Watch). u .before) w ∙ f .like .last ∙ sym (f .tracks .1);
+        values = ap (λ (u : Watch). u .values) w ∙ f .like .values ∙ ap padded (sym (f .tracks .2));
+        totals = ap (λ (u : Watch). u .totals) w ∙ f .counted (let t = ticks-few (o .monitors) (o .initial) (o .wires) cs in omega (arith, t));
       }
+
+  -- W13: monitor by monitor, they are how often each letter was met.
+  pub totals-right : (cs : List Call) → totalsOf (watchAfterAll (watchOf (value o)) cs) ≡ totals (o .monitors) (stood (o .monitors) (o .initial) (o .wires) cs .inner .ticks)
+  unfolding v
+  totals-right cs =
+      let h = watch-held cs in
+      let ts = stood (o .monitors) (o .initial) (o .wires) cs .inner .ticks in
+      let m : min (v .monitors) 32 ≡ v .monitors = (let a = Program.monitors-counted o c in let b = c .few-monitors in omega (arith, a, b)) in
+      let l : min (v .letters) 256 ≡ v .letters = omega (arith, few-letters) in
+      let few = total-letters (o .monitors) ts in
+      let z = length-replicate {A = ℕ} 256 0 in
+      ap (λ (u : Watch). totalsIn (u .firsts) (watchAfterAll v cs .totals) (u .monitors) (u .letters)) (h .tables)
+      ∙ ap (λ (N : List ℕ). totalsIn (v .firsts) N (v .monitors) (v .letters)) (h .totals ∙ sets-eq (flat (o .monitors) ts) (replicate 256 0) 0 (let r = in-room in omega (arith, few, z, r)))
+      ∙ ap₂ (λ (j k : ℕ). totalsFrom (v .firsts) (flat (o .monitors) ts ++ drop (0 + length (flat (o .monitors) ts)) (replicate 256 0)) j k j 0) m l
+      ∙ ap (λ (j : ℕ). totalsFrom (v .firsts) (flat (o .monitors) ts ++ drop (0 + length (flat (o .monitors) ts)) (replicate 256 0)) (v .monitors) (v .letters) j 0) (Program.monitors-counted o c)
+      ∙ totals-split (Program.tableOf o) (v .places) (layoutOf v) (o .rowCount) ts 0 0 0 (o .monitors) stands [] (drop (0 + length (flat (o .monitors) ts)) (replicate 256 0)) refl
 
   -- F17 in the watch: after any list of calls each thread has at most one letter of its own marked.
   pub one-active : (cs : List Call) (m : Exp) → m ∈ numberedFrom 0 (o .monitors) → (f : Exp) → f ∈ threads m → (a b : ℕ) → T (among (own f) a) → T (among (own f) b)
       → (getD (watchAfterAll (watchOf (value o)) cs .marks) a 0 ≡ 0 → ⊥) → (getD (watchAfterAll (watchOf (value o)) cs .marks) b 0 ≡ 0 → ⊥) → a ≡ b
   one-active cs =
-      let (t, _, _) = machine-stands text o e cs in
-      one-marked _ _ 0 0 (o .monitors) _ (λ m i. (ordered m i, all-accepted text o e m i)) (marks-right cs) (t .0)
+      let (xs, k, t) = marks-right cs in
+      one-marked _ _ 0 0 (o .monitors) xs (λ m i. (ordered m i, all-accepted text o e m i)) k t

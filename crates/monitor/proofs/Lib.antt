@@ -37,6 +37,8 @@ mod ShutRows
 mod Single
 -- a tick, by the loops and branches of the code
 pub mod TickSteps
+-- how often letters were met, by the branches of the code
+mod TotalSteps
 -- a list that is stored in an array stands there
 pub mod Stored
 -- reading gives at most 32 monitors
@@ -65,6 +67,8 @@ mod Readable
 mod LetterTests
 -- the marks of a newly opened watch are the monitors' starts
 mod Starts
+-- a good tick counts each letter met at it once, and no number outgrows its 32 bits; one number for each letter (`total-letters`)
+pub mod LetterTotals
 -- every list of calls on the watch of an accepted text gets the replies that its meaning fixes (`calls-answered`)
 pub mod Calls
 -- and every take on it tells the number of rows that the definition says

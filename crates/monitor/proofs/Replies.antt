@@ -12,7 +12,7 @@ use Rattle.meaning.specs.Fit.{Tick, ok, bad}
 use Rattle.meaning.specs.Positions as machine
 use Rattle.meaning.specs.Calls.{Call, look, take, wordOf, State, reply, afterCall, repliesFrom, stateFrom}
 use Rattle.meaning.proofs.ListLaws.{clash}
-use Rattle.meaning.proofs.Calls.{Alike, same-replies, same-states}
+use Rattle.meaning.proofs.Calls.{same-replies}
 use Rattle.rules.specs.declared.Watch.{Watch}
 use Rattle.monitor.specs.Ticks.{Layout, layout, within, Move, stepWithin}
 use Rattle.monitor.specs.Calls.{Moving, givenOf, layoutOf, stepFrom, judge, onward, withState, replyOf, watchAfter, watchAfterCall, repliesOf, watchAfterAll}
@@ -60,6 +60,14 @@ told-by ms t σ pad stores (machine.wrong j) z h =
     let (e, l) = h .stands j refl in
     ap (λ (b : Bool). cond b (bad (z .monitor)) ok) (lt-ltb (z .monitor) (length ms) (omega (arith, e, l))) ∙ ap bad e
 
+-- a machine that moved is at no monitor's start
+pub moved-on : (ms : List Exp) (m : machine.Watch) (w : ℕ) → machine.answer ms m w ≡ ok → (nss : List (List ℕ)) × (machine.moved ms m w .positions ≡ machine.keptEach ms nss)
+moved-on ms m w e = by (machine.ticked ms m w) e
+  where
+    by : (a : machine.Ticked) → machine.told a ≡ ok → (nss : List (List ℕ)) × (machine.movedBy ms m w a .positions ≡ machine.keptEach ms nss)
+    by (machine.fine nss) e = (nss, refl)
+    by (machine.wrong j) e = clash (cc e)
+
 module _ (ms : List Exp) (pad : List ℕ → List ℕ) (stores : ℕ) (v : Watch) (monitors : v .monitors ≡ length ms) (few-monitors : length ms ≤ 32) (few-letters : v .letters ≤ 256)
     (steps : (s : Moving) (m : machine.Watch) → Like ms pad stores s m → (w : ℕ)
     → Steps ms (machine.seen m w) (m .stores) pad stores (machine.ticked ms m w) (stepWithin (givenOf v (s .values) (w ∷ s .last ∷ [])) (layoutOf v) (s .marks))) where
@@ -74,12 +82,12 @@ module _ (ms : List Exp) (pad : List ℕ → List ℕ) (stores : ℕ) (v : Watch
   steps-within s m l w =
       subst (λ (y : Layout). Steps ms (machine.seen m w) (m .stores) pad stores (machine.ticked ms m w) (stepWithin (givenOf v (s .values) (w ∷ s .last ∷ [])) y (s .marks))) (sym all-within) (steps s m l w)
 
-  same-judgment : (s : Moving) (m : machine.Watch) → Like ms pad stores s m → (w : ℕ) → judge v s w ≡ machine.answer ms m w
+  pub same-judgment : (s : Moving) (m : machine.Watch) → Like ms pad stores s m → (w : ℕ) → judge v s w ≡ machine.answer ms m w
   same-judgment s m l w =
       ap (λ (n : ℕ). cond (ltb (stepFrom v s w .monitor) n) (bad (stepFrom v s w .monitor)) ok) (ap (λ (y : Layout). y .monitors) all-within ∙ monitors)
       ∙ told-by ms (machine.seen m w) (m .stores) pad stores (machine.ticked ms m w) (stepFrom v s w) (steps-within s m l w)
 
-  same-move : (s : Moving) (m : machine.Watch) → Like ms pad stores s m → (w : ℕ) → machine.answer ms m w ≡ ok → Like ms pad stores (onward v s w) (machine.moved ms m w)
+  pub same-move : (s : Moving) (m : machine.Watch) → Like ms pad stores s m → (w : ℕ) → machine.answer ms m w ≡ ok → Like ms pad stores (onward v s w) (machine.moved ms m w)
   same-move s m l w e = by (machine.ticked ms m w) (steps-within s m l w) e
     where
       by : (a : machine.Ticked) → Steps ms (machine.seen m w) (m .stores) pad stores a (stepFrom v s w) → machine.told a ≡ ok → Like ms pad stores (onward v s w) (machine.movedBy ms m w a)
@@ -93,6 +101,3 @@ module _ (ms : List Exp) (pad : List ℕ → List ℕ) (stores : ℕ) (v : Watch
     pub machine-replies : repliesOf (withState v s) cs ≡ repliesFrom (machine.answer ms) (machine.moved ms) (v .wires) other cs
     machine-replies =
         replies-by v s cs ∙ same-replies (judge v) (onward v) (machine.answer ms) (machine.moved ms) (Like ms pad stores) same-judgment same-move (v .wires) cs s other (l, refl, refl)
-
-    pub machine-states : Alike (Like ms pad stores) (stateFrom (judge v) (onward v) (v .wires) s cs) (stateFrom (machine.answer ms) (machine.moved ms) (v .wires) other cs)
-    machine-states = same-states (judge v) (onward v) (machine.answer ms) (machine.moved ms) (Like ms pad stores) same-judgment same-move (v .wires) cs s other (l, refl, refl)

@@ -9,20 +9,20 @@ use lib.Dec.{T, T-not, eqb, leb, ltb}
 use borrow.Author.Tests.{eq-eqb, ne-eqb, eqb-true, eqb-false, leb-true, leb-false, ltb-true, ltb-false}
 use lib.ListN.{length, getD, set}
 use lib.Seq.{getD-set-same}
-use Rattle.meaning.specs.Lists.{_∈_, total}
+use Rattle.meaning.specs.Lists.{_∈_, total, member}
 use Rattle.meaning.specs.Answers.{value}
-use Rattle.meaning.specs.Expression.{Exp, letters, own, size, rows, renumbered, Ordered}
+use Rattle.meaning.specs.Expression.{Letter, Exp, letters, own, size, rows, renumbered, Ordered}
 use Rattle.meaning.specs.Numbered.{numberedFrom}
 use Rattle.meaning.specs.Fit.{among}
 use Rattle.meaning.specs.Positions.{has, busy, Positions, at-start, on}
 use Rattle.meaning.specs.Table.{Table, laid, laidAll, noRow}
 use Rattle.meaning.specs.Opening.{Opened}
-use Rattle.meaning.proofs.ListLaws.{here, there, cons-∈, no-∈, by-test}
+use Rattle.meaning.proofs.ListLaws.{here, there, cons-∈, no-∈, ∈-map, by-test, same-truth, ∈-member, member-∈}
 use Rattle.meaning.proofs.OneWay.{Closed}
 use Rattle.meaning.proofs.Threads.{among-at}
 use Rattle.meaning.proofs.Walk.{ThreadRow, ThreadsShut, Shuts}
-use Rattle.meaning.proofs.Numbering.{renumbered-size, renumbered-rows, renumbered-ordered, numbered}
-use Rattle.meaning.proofs.Shifted.{shiftPositions, closed-renumbered}
+use Rattle.meaning.proofs.Numbering.{between, renumbered-size, renumbered-rows, renumbered-ordered, numbered}
+use Rattle.meaning.proofs.Shifted.{shiftAll, shiftPositions, closed-renumbered}
 use Rattle.meaning.proofs.Rows.{Stands, laid-length}
 use Rattle.rules.specs.Watches.{watchOf}
 use Rattle.rules.proofs.Placing.{letters-long}
@@ -34,7 +34,7 @@ use Rattle.monitor.proofs.Padded.{zeros-at}
 use Rattle.monitor.proofs.Stored.{stands-self, front, rear}
 use Rattle.monitor.proofs.Memory.{after-set, Begun, shutIn, empty-begun, shut-one}
 use Rattle.monitor.proofs.Going.{markedFrom, MarksAre}
-use Rattle.monitor.proofs.Moves.{ordered-counted, MarksAll}
+use Rattle.monitor.proofs.Moves.{ordered-counted, in-shift, MarksAll}
 use Rattle.monitor.proofs.Monitors.{active, AllShut, counted-has}
 use Rattle.monitor.proofs.Numbered.{programOf, InOrder, numbered-in-order}
 use Rattle.monitor.proofs.Shut.{goes, threads-long, Inner, wider, own-row, inner-row, shuts}
@@ -150,6 +150,20 @@ marked-in K (suc n) l i j = by (eqb (getD K l 0) 0) refl j (λ h. let (x, y, z) 
 pub marks-active : (K : List ℕ) (i n l : ℕ) (z : Positions) → MarksAre K i n l z → markedFrom K n l ≡ active z
 marks-active K i n l at-start (a, b) = b
 marks-active K i n l (on ns) (a, b) = b
+
+-- letter n is marked
+abbrev pub marked : (marks : List ℕ) → ℕ → Bool
+marked K n = not (eqb (getD K n 0) 0)
+
+-- where those marked, numbered from l on, are the positions ns
+pub same-met : (K : List ℕ) (l : ℕ) (m : Exp) → Ordered 0 m → (ns : List ℕ) → markedFrom K (size m) l ≡ shiftAll l ns → (x : Letter) → x ∈ letters m
+    → marked K (l + x .number) ≡ member (x .number) ns
+same-met K l m o ns e x i =
+    let (_, b) = between 0 m o x i in
+    same-truth (marked K (l + x .number)) (member (x .number) ns)
+    (λ h. ∈-member (x .number) ns
+    (in-shift l (x .number) ns (subst (λ zs. l + x .number ∈ zs) e (in-marked K (size m) l (l + x .number) (omega arith) (omega (arith, b)) (shut-not K (l + x .number) h)))))
+    (λ h. shut-yes K (l + x .number) (marked-in K (size m) l (l + x .number) (subst (λ zs. l + x .number ∈ zs) (sym e) (∈-map (λ k. l + k) (member-∈ (x .number) ns h))) .2))
 
 -- ---- the rows of all monitors; tr has each letter's
 

@@ -17,13 +17,13 @@ use Rattle.words.specs.Words.{part1}
 use Rattle.counts.specs.Counts.{countsOf}
 use Rattle.monitor.specs.Letters.{Given, given, threaded, unthreaded}
 use Rattle.monitor.specs.Walk.{Told, told, askM, leaveM}
-use Rattle.monitor.specs.Ticks.{steps, Layout, layout, firstMarked, ifMarked, eachMarked, shutRow, shutCode, shutFor, shutBusy, andThen, letterGoes, lettersGo, startGoes, lettersEnd, monitorGoes, Reached, reached, reachedBy, monitorsGo, marksAfter, writeMarked, writers, Move, move, emptyMemory, moveBy, stepWithin, stepOf, within, stuckAt}
+use Rattle.monitor.specs.Ticks.{steps, Layout, layout, firstMarked, ifMarked, eachMarked, shutRow, shutCode, shutFor, shutBusy, andThen, letterGoes, lettersGo, startGoes, lettersEnd, monitorGoes, Reached, reached, reachedBy, monitorsGo, marksAfter, writeMarked, countMet, writers, Move, move, emptyMemory, moveBy, stepWithin, stepOf, within, stuckAt}
 use Rattle.rules.specs.declared.Watch.{Watch}
 use Rattle.monitor.specs.Tally.{counts, touchedOf}
 use Rattle.monitor.specs.Calls.{Moving, tablesOf, withState, refusedBy, stateOf, judge, onward, stepFrom, layoutOf, replyOf, touchedOn, touchedFor, watchAfter}
 use Rattle.monitor.specs.Shown.{shownAnswer}
 use Rattle.monitor.specs.declared.Answer.the-variants.{Ok, Bad, Refused}
-use Rattle.monitor.proofs.Marked.{each-split, to-first}
+use Rattle.monitor.proofs.Marked.{each-split, past-some, to-first}
 
 -- ---- what is done for marked letters; f is what is done for one
 
@@ -38,6 +38,10 @@ module _ (K : List ℕ) (f : ℕ → List ℕ → List ℕ) where
   idle-done : (σ : List ℕ) (n l : ℕ) → getD K l 0 ≡ 0 → eachMarked K f (suc n) l σ ≡ eachMarked K f n (suc l) σ
   unfolding eachMarked
   idle-done σ n l z = ap (eachMarked K f n (suc l)) (sym (not-done l σ z))
+
+  -- unmarked ones are passed over
+  pub done-none : (k n i : ℕ) (σ : List ℕ) → i + k ≤ n → ((j : ℕ) → j < k → getD K (i + j) 0 ≡ 0) → eachMarked K f (n - i) i σ ≡ eachMarked K f (n - (i + k)) (i + k) σ
+  done-none k n i σ = past-some K (λ m l. eachMarked K f m l σ) (idle-done σ) k n i
 
   pub to-first-done : (n i : ℕ) (σ : List ℕ) (j : ℕ) → j ≡ firstMarked K (n - i) i → eachMarked K f (n - i) i σ ≡ eachMarked K f (n - j) j σ
   to-first-done n i σ j = to-first K (λ m l. eachMarked K f m l σ) (idle-done σ) n i j
@@ -60,11 +64,19 @@ module _ (K : List ℕ) (f : ℕ → List ℕ → List ℕ) where
   done-more n i σ τ h e j q = done-one n i σ τ h e ∙ to-first-done n (i + 1) τ j q
 
   -- done for n letters, and for the next one
-  pub and-next : (n l : ℕ) (σ ρ τ : List ℕ) → ρ ≡ eachMarked K f n l σ → τ ≡ ifMarked K f (l + n) ρ → τ ≡ eachMarked K f (suc n) l σ
+  and-next : (n l : ℕ) (σ ρ τ : List ℕ) → ρ ≡ eachMarked K f n l σ → τ ≡ ifMarked K f (l + n) ρ → τ ≡ eachMarked K f (suc n) l σ
   unfolding eachMarked
   and-next n l σ ρ τ p q =
       let d : suc n ≡ n + 1 = omega arith in
       q ∙ ap (ifMarked K f (l + n)) p ∙ sym (ap (λ (m : ℕ). eachMarked K f m l σ) d ∙ each-split K f n 1 l σ)
+
+  -- for eight letters, one after the other
+  pub eight-done : (l : ℕ) (σ₀ σ₁ σ₂ σ₃ σ₄ σ₅ σ₆ σ₇ σ₈ : List ℕ) → σ₁ ≡ ifMarked K f l σ₀ → σ₂ ≡ ifMarked K f (l + 1) σ₁ → σ₃ ≡ ifMarked K f (l + 2) σ₂ → σ₄ ≡ ifMarked K f (l + 3) σ₃
+      → σ₅ ≡ ifMarked K f (l + 4) σ₄ → σ₆ ≡ ifMarked K f (l + 5) σ₅ → σ₇ ≡ ifMarked K f (l + 6) σ₆ → σ₈ ≡ ifMarked K f (l + 7) σ₇ → σ₈ ≡ eachMarked K f 8 l σ₀
+  unfolding eachMarked
+  eight-done l σ₀ σ₁ σ₂ σ₃ σ₄ σ₅ σ₆ σ₇ σ₈ e₁ e₂ e₃ e₄ e₅ e₆ e₇ e₈ =
+      and-next 7 l σ₀ σ₇ σ₈
+      (and-next 6 l σ₀ σ₆ σ₇ (and-next 5 l σ₀ σ₅ σ₆ (and-next 4 l σ₀ σ₄ σ₅ (and-next 3 l σ₀ σ₃ σ₄ (and-next 2 l σ₀ σ₂ σ₃ (and-next 1 l σ₀ σ₁ σ₂ e₁ e₂) e₃) e₄) e₅) e₆) e₇) e₈
 
   -- all are done, and x is what was to be done
   pub done-up : (n i : ℕ) (x τ : List ℕ) → n ≤ i → x ≡ eachMarked K f (n - i) i τ → τ ≡ x
@@ -143,13 +155,13 @@ module _ (g : Given) (P K : List ℕ) (to i : ℕ) (M : List ℕ) where
       sym (inv ∙ ap (λ (m : ℕ). lettersGo g P K m i M) d)
 
 -- where a monitor's letters end
-pub ends-before : (F : List ℕ) (m l i r x : ℕ) → i + 1 < m → x ≡ getD F (i + 1) 0 → r ≡ min x 256 → (r ≡ lettersEnd F m l i) × (r ≤ 256)
-ends-before F m l i r x h d e =
+pub ends-before : (F : List ℕ) (m l i r x : ℕ) → i < 31 → i + 1 < m → x ≡ getD F (i + 1) 0 → r ≡ min x 256 → (r ≡ lettersEnd F (min m 32) l i) × (r ≤ 256)
+ends-before F m l i r x g h d e =
     let s : i + 1 ≡ suc i = omega arith in
-    (e ∙ ap (λ (n : ℕ). min n 256) (d ∙ ap (λ (j : ℕ). getD F j 0) s) ∙ sym (taken (ltb (suc i) m) (min (getD F (suc i) 0) 256) l (lt-ltb (suc i) m (omega arith))), omega (arith, e))
+    (e ∙ ap (λ (n : ℕ). min n 256) (d ∙ ap (λ (j : ℕ). getD F j 0) s) ∙ sym (taken (ltb (suc i) (min m 32)) (min (getD F (suc i) 0) 256) l (lt-ltb (suc i) (min m 32) (omega arith))), omega (arith, e))
 
-pub ends-last : (F : List ℕ) (m l i : ℕ) → m ≤ i + 1 → l ≤ 256 → (l ≡ lettersEnd F m l i) × (l ≤ 256)
-ends-last F m l i h k = (sym (left (ltb (suc i) m) (min (getD F (suc i) 0) 256) l (le-ltb (suc i) m (omega arith))), k)
+pub ends-last : (F : List ℕ) (m l i r : ℕ) → min m 32 ≤ i + 1 → r ≡ min l 256 → (r ≡ lettersEnd F (min m 32) (min l 256) i) × (r ≤ 256)
+ends-last F m l i r h e = (e ∙ sym (left (ltb (suc i) (min m 32)) (min (getD F (suc i) 0) 256) (min l 256) (le-ltb (suc i) (min m 32) (omega arith))), omega (arith, e))
 
 module _ (g : Given) (y : Layout) (K : List ℕ) (i : ℕ) (M : List ℕ) where
   abbrev then-letters : List ℕ → Told
@@ -160,10 +172,13 @@ module _ (g : Given) (y : Layout) (K : List ℕ) (i : ℕ) (M : List ℕ) where
   monitor-stops b N e f = sym (told-no (startGoes g (y .own) K i M) b N then-letters e f)
 
   pub monitor-on : (b : Bool) (N : List ℕ) (t : Told) (from to : ℕ) → told b N ≡ startGoes g (y .own) K i M → b ≡ true
-      → from ≡ getD (y .firsts) i 0 → to ≡ lettersEnd (y .firsts) (y .monitors) (y .letters) i → t ≡ lettersGo g (y .places) K (to - from) from N → t ≡ monitorGoes g y K i M
+      → from ≡ getD (y .firsts) i 0 → y .monitors ≤ 32 → y .letters ≤ 256 → to ≡ lettersEnd (y .firsts) (min (y .monitors) 32) (min (y .letters) 256) i
+      → t ≡ lettersGo g (y .places) K (to - from) from N → t ≡ monitorGoes g y K i M
   unfolding monitorGoes
-  monitor-on b N t from to e f p q h =
-      h ∙ ap₂ (λ (u v : ℕ). lettersGo g (y .places) K (v - u) u N) p q ∙ sym (told-yes (startGoes g (y .own) K i M) b N then-letters e f)
+  monitor-on b N t from to e f p few short q h =
+      let m : min (y .monitors) 32 ≡ y .monitors = omega (arith, few) in
+      let l : min (y .letters) 256 ≡ y .letters = omega (arith, short) in
+      h ∙ ap₂ (λ (u v : ℕ). lettersGo g (y .places) K (v - u) u N) p (q ∙ ap₂ (λ (j k : ℕ). lettersEnd (y .firsts) j k i) m l) ∙ sym (told-yes (startGoes g (y .own) K i M) b N then-letters e f)
 
   reached-yes : (t : Told) (b : Bool) (N : List ℕ) (f : List ℕ → Reached) → told b N ≡ t → b ≡ true → reachedBy i t f ≡ f N
   reached-yes t b N f e h = ap (λ (s : Told). reachedBy i s f) (sym e) ∙ taken b (f N) (reached i N) h
@@ -255,12 +270,12 @@ module _ (b : Bool) (n k w : ℕ) (f : b ≡ false) where
 
 -- ---- the watch after a take
 
-pub one-tick : (v : Watch) (K σ : List ℕ) (w : ℕ)
-    → withState v (record { inner = record { marks = K; values = σ; last = w }; oks = v .ticks + 1; stopped = v .stopped })
-    ≡ withState v (record { inner = record { marks = K; values = σ; last = w }; oks = suc (v .ticks); stopped = v .stopped })
-one-tick v K σ w =
+pub one-tick : (v : Watch) (K σ N : List ℕ) (w : ℕ)
+    → withState v (record { inner = record { marks = K; values = σ; last = w; totals = N }; oks = v .ticks + 1; stopped = v .stopped })
+    ≡ withState v (record { inner = record { marks = K; values = σ; last = w; totals = N }; oks = suc (v .ticks); stopped = v .stopped })
+one-tick v K σ N w =
     let e : v .ticks + 1 ≡ suc (v .ticks) = omega arith in
-    ap (λ (n : ℕ). withState v (record { inner = record { marks = K; values = σ; last = w }; oks = n; stopped = v .stopped })) e
+    ap (λ (n : ℕ). withState v (record { inner = record { marks = K; values = σ; last = w; totals = N }; oks = n; stopped = v .stopped })) e
 
 -- ---- calls
 
@@ -346,12 +361,13 @@ module _ (v : Watch) (w n : ℕ) (e : n ≡ refusedBy (v .stopped) (v .ticks) (v
         let r = look-bad z i (ap (λ (a : Move). a .monitor) s) b f h in
         (r, q ∙ ap (λ (t : Reply). withState v (after (onward v) (stateOf v) w t)) r)
 
-    pub take-ok : b ≡ false → u ≡ withState v (record { inner = record { marks = K; values = σ; last = w }; oks = suc (v .ticks); stopped = v .stopped })
+    pub take-ok : b ≡ false → (N : List ℕ) → N ≡ countMet K (min (v .letters) 256) (v .totals) → u ≡ withState v (record { inner = record { marks = K; values = σ; last = w; totals = N }; oks = suc (v .ticks); stopped = v .stopped })
         → (shownAnswer Ok ≡ replyOf v w) × (u ≡ watchAfter v w)
     unfolding watchAfter
-    take-ok h q =
+    take-ok h N c q =
         let r = look-ok z i (ap (λ (a : Move). a .monitor) s) b f h in (
           r,
-          q ∙ ap (λ (a : Move). withState v (record { inner = record { marks = a .marks; values = a .values; last = w }; oks = suc (v .ticks); stopped = v .stopped })) s
+          q ∙ ap (λ (n : List ℕ). withState v (record { inner = record { marks = K; values = σ; last = w; totals = n }; oks = suc (v .ticks); stopped = v .stopped })) c
+              ∙ ap (λ (a : Move). withState v (record { inner = record { marks = a .marks; values = a .values; last = w; totals = countMet (a .marks) (min (v .letters) 256) (v .totals) }; oks = suc (v .ticks); stopped = v .stopped })) s
               ∙ ap (λ (t : Reply). withState v (after (onward v) (stateOf v) w t)) r,
         )

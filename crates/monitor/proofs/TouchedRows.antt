@@ -1,41 +1,39 @@
 -- The number that a take tells on the watch of an accepted text is the definition's (meaning's Touched), for every list of calls. Assumes nothing.
 use mathlib.Core.Path.{_≡_, refl, sym, ap, _∙_, subst}
-use mathlib.Core.Bool.{Bool, false, not, cond}
+use mathlib.Core.Bool.{false, cond}
 use mathlib.Core.List.{List, [], _∷_, map}
 use mathlib.Core.Logic.{⊎-elim}
 use Prim.Native.Nat.{ℕ, zero, suc, _+_, _*_, _<_, _≤_, min}
 use native.Mathlib.Omega.{arith}
-use lib.Dec.{T, T-not, not-T, eqb}
-use borrow.Author.Tests.{eqb-true, eqb-false}
+use lib.Dec.{T, eqb}
 use lib.ListN.{length, take as upTo, getD}
 use Rattle.meaning.specs.Lists.{_∈_, total, member}
 use Rattle.meaning.specs.Answers.{value}
-use Rattle.meaning.specs.Expression.{Letter, Exp, letters, size, rows, renumbered, Ordered}
+use Rattle.meaning.specs.Expression.{Exp, size, rows, renumbered, Ordered}
 use Rattle.meaning.specs.Numbered.{numberedFrom}
 use Rattle.meaning.specs.Fit.{Tick}
 use Rattle.meaning.specs.Touched.{touched}
 use Rattle.meaning.specs.Positions.{has, Positions, at-start, on}
 use Rattle.meaning.specs.Calls.{Call, look, take, looked, replyIn, touchedBy, ok, Tells, standing, AllRightly, AllAnswered}
 use Rattle.meaning.specs.Opening.{Opened, openText}
-use Rattle.meaning.proofs.ListLaws.{here, there, no-∈, cons-∈, ∈-map, is-true, is-false, same-truth, ∈-member, member-∈}
+use Rattle.meaning.proofs.ListLaws.{here, there, no-∈, cons-∈}
 use Rattle.meaning.proofs.Monitor.{Accepted}
 use Rattle.meaning.proofs.Watch.{Tracked}
-use Rattle.meaning.proofs.Numbering.{between}
 use Rattle.meaning.proofs.Shifted.{shiftPositions, shiftAll, renumbered-shifted}
 use Rattle.meaning.proofs.Counting.{askedCount, ownPlace, sumsAfter}
 use Rattle.meaning.proofs.CountingLaws.{sums-same, sums-none, asked-shifted, after-shifted}
 use Rattle.meaning.proofs.TouchedCount.{countAt, countsAt, touched-tracked, touched-most, alone-most-from}
 use Rattle.meaning.proofs.Accept.{accept-all}
 use Rattle.meaning.proofs.Calls.{replies-rightly}
-use Rattle.meaning.proofs.Openings.{machine-stands, all-read, all-accepted}
+use Rattle.meaning.proofs.Openings.{all-read, all-accepted}
 use Rattle.rules.specs.Watches.{watchOf}
 use Rattle.rules.specs.declared.Watch.{Watch}
 use Rattle.counts.specs.Counts.{costsOf, placesUp, countsOf}
 use Rattle.monitor.specs.Tally.{counts, touchedOf}
 use Rattle.monitor.specs.Calls.{replyOf, touchedOn, answerOf, answersOf, repliesOf, watchAfterCall, watchAfterAll}
 use Rattle.monitor.proofs.Going.{markedFrom, MarksAre}
-use Rattle.monitor.proofs.Moves.{in-shift, MarksAll}
-use Rattle.monitor.proofs.ShutRows.{in-marked, marked-in}
+use Rattle.monitor.proofs.Moves.{MarksAll}
+use Rattle.monitor.proofs.ShutRows.{marked, same-met}
 use Rattle.monitor.proofs.Numbered.{programOf}
 use Rattle.monitor.proofs.Program.{Counted, text-counted, in-order, program-length, program-letters, monitors-counted, letters-counted, program-laid}
 use Rattle.monitor.proofs.TouchedLetters.{startCounts, letters-touched, starts-touched}
@@ -45,33 +43,16 @@ use Rattle.monitor.proofs.Calls.{calls-answered, marks-right, watch-hel
 -- ---- one monitor
 
 module _ (K : List ℕ) where
-  -- letter n is marked
-  abbrev pub marked : ℕ → Bool
-  marked n = not (eqb (getD K n 0) 0)
-
-  is-marked : (n : ℕ) → T (marked n) → getD K n 0 ≡ 0 → ⊥
-  is-marked n h = eqb-false (getD K n 0) 0 (is-false (eqb (getD K n 0) 0) (T-not (eqb (getD K n 0) 0) h))
-
-  to-marked : (n : ℕ) → (getD K n 0 ≡ 0 → ⊥) → T (marked n)
-  to-marked n h = not-T (eqb (getD K n 0) 0) (λ t. h (eqb-true (getD K n 0) 0 (is-true (eqb (getD K n 0) 0) t)))
-
   -- the letters of a monitor that are marked, numbered from l on, are its positions ns
   module _ (l : ℕ) (m : Exp) (o : Ordered 0 m) (ns : List ℕ) (e : markedFrom K (size m) l ≡ shiftAll l ns) where
-    pub same-met : (x : Letter) → x ∈ letters m → marked (l + x .number) ≡ member (x .number) ns
-    same-met x i =
-        let (_, b) = between 0 m o x i in
-        same-truth (marked (l + x .number)) (member (x .number) ns)
-        (λ h. ∈-member (x .number) ns (in-shift l (x .number) ns (subst (λ zs. l + x .number ∈ zs) e (in-marked K (size m) l (l + x .number) (omega arith) (omega (arith, b)) (is-marked (l + x .number) h)))))
-        (λ h. to-marked (l + x .number) (marked-in K (size m) l (l + x .number) (subst (λ zs. l + x .number ∈ zs) (sym e) (∈-map (λ k. l + k) (member-∈ (x .number) ns h))) .2))
-
-    sums-marked : sumsAfter marked (renumbered l m) ≡ sumsAfter (λ n. member n ns) m
+    sums-marked : sumsAfter (marked K) (renumbered l m) ≡ sumsAfter (λ n. member n ns) m
     sums-marked =
-        ap (sumsAfter marked) (renumbered-shifted l l 0 m (omega arith) o) ∙ after-shifted l marked m
-        ∙ sums-same (λ n. marked (l + n)) (λ n. member n ns) m (ownPlace m) false same-met
+        ap (sumsAfter (marked K)) (renumbered-shifted l l 0 m (omega arith) o) ∙ after-shifted l (marked K) m
+        ∙ sums-same (λ n. marked K (l + n)) (λ n. member n ns) m (ownPlace m) false (same-met K l m o ns e)
 
   -- what is counted for it is what its positions touch
   one-counted : (i l : ℕ) (m : Exp) (x : Positions) → Ordered 0 m → MarksAre K i (size m) l (shiftPositions l x)
-      → cond (eqb (getD K (256 + i) 0) 0) 0 (askedCount (renumbered l m)) + sumsAfter marked (renumbered l m) ≡ countAt m x
+      → cond (eqb (getD K (256 + i) 0) 0) 0 (askedCount (renumbered l m)) + sumsAfter (marked K) (renumbered l m) ≡ countAt m x
   one-counted i l m at-start o (a, b) =
       rw a
       (let p = ap askedCount (renumbered-shifted l l 0 m (omega arith) o) ∙ asked-shifted l m in
@@ -82,7 +63,7 @@ module _ (K : List ℕ) where
   -- ---- all monitors
 
   pub all-counted : (i l : ℕ) (ms : List Exp) (xs : List Positions) → ((m : Exp) → m ∈ ms → Ordered 0 m) → MarksAll K i l ms xs
-      → startCounts K i (numberedFrom l ms) + total (λ m. sumsAfter marked m) (numberedFrom l ms) ≡ countsAt ms xs
+      → startCounts K i (numberedFrom l ms) + total (λ m. sumsAfter (marked K) m) (numberedFrom l ms) ≡ countsAt ms xs
   unfolding numberedFrom MarksAll countsAt
   all-counted i l [] xs o h = refl
   all-counted i l (m ∷ ms) [] o h = absurd h
@@ -163,9 +144,9 @@ module _ (text : List ℕ) (o : Opened) (e : openText text ≡ value o) where
   unfolding touchedOn
   touched-right cs =
       let v = watchOf (value o) in
-      let (t, _, _) = machine-stands text o e cs in
+      let (xs, k, t) = marks-right text o e cs in
       ap (λ (u : Watch). min (touchedOf (counts (u .table) (countsOf u) (u .places)) (u .own) (u .marks) (u .monitors) (u .letters)) 65535) (watch-held text o e cs .tables)
-      ∙ counted-right (watchAfterAll v cs .marks) _ _ (marks-right text o e cs) (t .0)
+      ∙ counted-right (watchAfterAll v cs .marks) xs _ k t
 
   -- F26: "never above twice the rows"
   pub few-touched : (ts : List Tick) → touched (o .monitors) ts ≤ 2 * o .rowCount

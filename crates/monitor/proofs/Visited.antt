@@ -30,7 +30,7 @@ use Rattle.meaning.proofs.CountingLaws.{sums-none, asked-shifted}
 use Rattle.meaning.proofs.TouchedCount.{countAt, countsAt, touched-tracked}
 use Rattle.meaning.proofs.Spent.{spentAfter, spent-most, spent-same, spent-after-shifted}
 use Rattle.meaning.proofs.Accept.{accept-all}
-use Rattle.meaning.proofs.Openings.{machine-stands, all-read, all-accepted}
+use Rattle.meaning.proofs.Openings.{all-read, all-accepted}
 use Rattle.words.specs.Words.{part0}
 use Rattle.rules.specs.Watches.{watchOf}
 use Rattle.rules.specs.declared.Watch.{Watch}
@@ -43,13 +43,13 @@ use Rattle.monitor.proofs.Memory.{begun}
 use Rattle.monitor.proofs.Going.{markedFrom, MarksAre}
 use Rattle.monitor.proofs.Moves.{MarksAll}
 use Rattle.monitor.proofs.Stored.{stands-self, front, rear}
+use Rattle.monitor.proofs.ShutRows.{marked, same-met}
 use Rattle.monitor.proofs.Numbered.{programOf}
 use Rattle.monitor.proofs.RowWords.{wordOf, kind-is, left-is, up-is}
 use Rattle.monitor.proofs.LetterRows.{HeldAll}
 use Rattle.monitor.proofs.Program.{Counted, LaidFrom, text-counted, tableOf, program-held, program-laid, words-right, monitors-counted, within-same}
 use Rattle.monitor.proofs.CountRows.{costs-for, operands}
 use Rattle.monitor.proofs.VisitedRows.{Sane, begun-sane, RowIs, Built, asked-some, monitor-few}
-use Rattle.monitor.proofs.TouchedRows.{marked, same-met}
 use Rattle.monitor.proofs.Calls.{marks-right, watch-held}
 
 -- ---- one monitor: what its marks may spend is what its positions touch
@@ -190,7 +190,7 @@ module _ (text : List ℕ) (o : Opened) (e : openText text ≡ value o) where
   visits-few cs w =
       let v = watchOf (value o) in
       let u = watchAfterAll v cs in
-      let (t, _, _) = machine-stands text o e cs in
+      let (xs, k, t) = marks-right text o e cs in
       let p = ap (λ (z : Watch). visitsOn z w) (watch-held text o e cs .tables) in
-      let q = visits-tracked (u .marks) _ _ (marks-right text o e cs) (t .0) (u .values) (w ∷ u .before ∷ []) in
+      let q = visits-tracked (u .marks) xs _ k t (u .values) (w ∷ u .before ∷ []) in
       omega (arith, p, q)

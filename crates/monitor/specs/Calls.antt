@@ -2,12 +2,15 @@
 use mathlib.Core.Bool.{Bool, cond, _&&_}
 use mathlib.Core.List.{List, [], _∷_}
 use mathlib.Core.Path.{_≡_}
-use Prim.Native.Nat.{ℕ, zero, suc, _+_, _*_, min}
+use Prim.Native.Nat.{ℕ, zero, suc, _+_, _-_, _*_, min}
 use lib.Dec.{eqb}
 use lib.ListN.{getD, set, replicate}
 use lib.Seq.{sets}
 use Rattle.refusals.specs.Numbers.{stray, stopped, full}
+use Rattle.meaning.specs.Lists.{each}
+use Rattle.meaning.specs.Expression.{Exp}
 use Rattle.meaning.specs.Fit.{Verdict, History}
+use Rattle.meaning.specs.Totals.{totals}
 use Rattle.meaning.specs.Calls.{Call, look, take, wordOf, Reply, isFull, isStray, State, reply, after, touchedBy, Answer, looked, took}
 use Rattle.words.specs.Words.{quad}
 use Rattle.rules.specs.declared.Watch.{Watch}
@@ -15,14 +18,15 @@ use Rattle.counts.specs.Counts.{countsOf}
 use Rattle.monitor.specs.Letters.{Given, given}
 use Rattle.monitor.specs.Threads.{threadsOf}
 use Rattle.monitor.specs.Tally.{counts, touchedOf}
-use Rattle.monitor.specs.Ticks.{Layout, layout, within, firstMarked, Move, stepOf, verdictOf}
+use Rattle.monitor.specs.Ticks.{Layout, layout, within, firstMarked, lettersEnd, countMet, Move, stepOf, verdictOf}
 use Rattle.monitor.specs.Visits.{visitsWithin}
 
--- W7: what moves from tick to tick, the marks, the store values and the word of the last tick.
+-- W7 and W13: what moves from tick to tick, the marks, the store values, the word of the last tick, and how often each letter was met.
 pub record Moving : Type 0 where
   pub marks : List ℕ
   pub values : List ℕ
   pub last : ℕ
+  pub totals : List ℕ
 
 -- the rest of a watch: what each letter looks at, 256 places on what it wants, 512 on the wires that must be as before, 768 on the row of the thread that it goes on in, or 0; and with that of letter 0 the
 -- numbers of letters up to the last that writes, up to the last that goes on in a thread, and before the first that does
@@ -68,11 +72,34 @@ abbrev pub judge : Watch → Moving → ℕ → Verdict
 judge v s w = verdictOf (layoutOf v) (stepFrom v s w)
 
 abbrev pub onward : Watch → Moving → ℕ → Moving
-onward v s w = record { marks = stepFrom v s w .marks; values = stepFrom v s w .values; last = w }
+onward v s w =
+    record {
+      marks = stepFrom v s w .marks;
+      values = stepFrom v s w .values;
+      last = w;
+      totals = countMet (stepFrom v s w .marks) (min (v .letters) 256) (s .totals);
+    }
+
+-- n numbers of a list from l on
+unfoldable pub stretch : List ℕ → (n l : ℕ) → List ℕ
+stretch N zero l = []
+stretch N (suc n) l = getD N l 0 ∷ stretch N n (suc l)
+
+-- W13: how often each letter of a monitor was met, for n monitors from i on: the letters of a monitor are those from its own first up to the next monitor's
+unfoldable pub totalsFrom : (firsts totals : List ℕ) → (monitors letters n i : ℕ) → List (List ℕ)
+totalsFrom F N m l zero i = []
+totalsFrom F N m l (suc n) i = stretch N (lettersEnd F m l i - getD F i 0) (getD F i 0) ∷ totalsFrom F N m l n (suc i)
+
+-- for all monitors, of 32 monitors and 256 letters at most
+abbrev pub totalsIn : (firsts totals : List ℕ) → (monitors letters : ℕ) → List (List ℕ)
+totalsIn F N m l = totalsFrom F N (min m 32) (min l 256) (min m 32) 0
+
+abbrev pub totalsOf : Watch → List (List ℕ)
+totalsOf v = totalsIn (v .firsts) (v .totals) (v .monitors) (v .letters)
 
 -- a watch's state between two calls
 abbrev pub stateOf : Watch → State Moving
-stateOf v = record { inner = record { marks = v .marks; values = v .values; last = v .before }; oks = v .ticks; stopped = v .stopped }
+stateOf v = record { inner = record { marks = v .marks; values = v .values; last = v .before; totals = v .totals }; oks = v .ticks; stopped = v .stopped }
 
 abbrev pub withState : Watch → State Moving → Watch
 withState v s =
@@ -95,6 +122,7 @@ withState v s =
       values = s .inner .values;
       marks = s .inner .marks;
       ticks = s .oks;
+      totals = s .inner .totals;
       stopped = s .stopped;
     }
 
@@ -144,11 +172,12 @@ unfoldable pub watchAfterAll : Watch → List Call → Watch
 watchAfterAll v [] = v
 watchAfterAll v (c ∷ cs) = watchAfterAll (watchAfterCall v c) cs
 
--- W1, W7 to W10: what a watch u, opened as v, has where the meaning stands at h: tick count, stop, the word before and the store values, zeros behind these; all else but
--- the marks is as in v
-pub record Held (v u : Watch) (h : State History) : Type 0 where
+-- W1, W7 to W10 and W13: what a watch u, opened as v with the monitors ms, has where the meaning stands at h: tick count, stop, the word before, the store values, and how often
+-- each letter of each monitor was met, in their order, zeros behind these; all else but the marks is as in v
+pub record Held (ms : List Exp) (v u : Watch) (h : State History) : Type 0 where
   pub tables : u ≡ withState v (stateOf u)
   pub ticks : u .ticks ≡ h .oks
   pub stopped : u .stopped ≡ h .stopped
   pub before : u .before ≡ h .inner .last
   pub values : u .values ≡ sets (replicate 16 0) 0 (h .inner .stores)
+  pub totals : u .totals ≡ sets (replicate 256 0) 0 (each (totals ms (h .inner .ticks)) (λ ns. ns))

@@ -1,7 +1,7 @@
 -- A tick, from a watch and a word to the answer and the new watch (docs/REFERENCE.md, W6 to W8, F19 and F21); over any watch. Assumes nothing.
 use mathlib.Core.Bool.{Bool, true, cond}
 use mathlib.Core.List.{List}
-use Prim.Native.Nat.{ℕ, zero, suc, _+_, _-_, min}
+use Prim.Native.Nat.{ℕ, zero, suc, _+_, _-_, _%_, min}
 use lib.Dec.{eqb, leb, ltb}
 use lib.ListN.{getD, set, take, drop, replicate}
 use lib.Seq.{sets}
@@ -124,6 +124,14 @@ writeIf g marks l σ = ifMarked marks (writeLetter g) l σ
 -- F21: "the later monitor's stands; within a monitor that of the letter with the higher number": n letters from l on
 abbrev pub writeMarked : Given → (marks : List ℕ) → (n l : ℕ) → List ℕ → List ℕ
 writeMarked g marks n l σ = eachMarked marks (writeLetter g) n l σ
+
+-- W13: "each letter that was met at the tick has one more": letter l, in the 32 bits that a watch has for it
+abbrev pub oneMore : (l : ℕ) → List ℕ → List ℕ
+oneMore l ns = set ns l (suc (getD ns l 0) % 4294967296)
+
+-- those of the first n letters that are marked
+abbrev pub countMet : (marks : List ℕ) → (n : ℕ) → List ℕ → List ℕ
+countMet marks n ns = eachMarked marks oneMore n 0 ns
 
 -- so many letters need be looked at, by what the tables say, and no more than there are
 abbrev pub writers : Given → (letters : ℕ) → ℕ

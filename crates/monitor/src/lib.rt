@@ -1,6 +1,6 @@
 // The watch at work: `look` answers what a word would come to, and `take` answers the same, tells how many rows the tick touched,
 // and gives the watch that it moved on to. For loops, which must not copy a watch, `tables_of` and `counts_of` lay out once what
-// the ticks need; `refused_by`, `peek` or `step`, `is_bad` and `touched` are what a look or a take is made of.
+// the ticks need; `refused_by`, `peek` or `step`, `is_bad`, `touched` and `count_met` are what a look or a take is made of.
 // What they answer is said for every watch, also one that no call ever gave (specs/Calls.antt, specs/Ticks.antt).
 mod busy;
 mod letters;
@@ -9,6 +9,7 @@ mod positions;
 mod tables;
 mod tally;
 mod threads;
+mod totals;
 mod walk;
 
 use busy::shut_marked;
@@ -16,12 +17,14 @@ pub use counts::counts_of;
 use letters::write_letter;
 use marks::first_marked;
 use marks::put_marks;
+pub use positions::letters_end;
 use positions::monitors_go;
 use rules::Watch;
 use tables::LETTERS;
 use tables::THREADS;
 pub use tables::tables_of;
 pub use tally::touched;
+pub use totals::count_met;
 use words::least;
 use words::part1;
 use words::part2;
@@ -150,7 +153,7 @@ pub fn peek<'a>(
 }
 
 // What a take does with a word that is not refused: the same, and marks and store values are then those after the tick, or as they
-// were where a monitor does not go on. The tick count, the stop and the word before are the caller's to keep.
+// were where a monitor does not go on. The tick count, the stop, the word before and the totals are the caller's to keep.
 pub fn step<'a>(
     tables: &'a [[u64; 1024]; 4],
     places: &'a [u16; 256],
@@ -242,14 +245,21 @@ fn stopped(watch: Watch) -> Watch
 }
 
 // The watch after a good tick with a word.
-fn moved_on(watch: Watch, marks: [u8; 288], values: [u64; 16], word: u64) -> Watch
+fn moved_on(
+    watch: Watch,
+    marks: [u8; 288],
+    values: [u64; 16],
+    totals: [u32; 256],
+    word: u64,
+) -> Watch
     requires { ⌜ watch .ticks < 1000000 ⌝ }
-    ensures { λ r. ⌜ r ≡ withState watch (record { inner = record { marks = marks; values = values; last = word }; oks = suc (watch .ticks); stopped = watch .stopped }) ⌝ }
+    ensures { λ r. ⌜ r ≡ withState watch (record { inner = record { marks = marks; values = values; last = word; totals = totals }; oks = suc (watch .ticks); stopped = watch .stopped }) ⌝ }
 {
     let mut next = watch;
     next.marks = marks;
     next.values = values;
     next.before = word;
+    next.totals = totals;
     next.ticks = next.ticks + 1;
     next
 }
@@ -327,7 +337,9 @@ pub fn take(watch: Watch, word: u64) -> Taken
             watch: next,
         };
     }
-    let next = moved_on(watch, marks, values, word);
+    let mut totals = watch.totals;
+    count_met(watch.letters, &marks, &mut totals);
+    let next = moved_on(watch, marks, values, totals, word);
     Taken {
         answer: Answer::Ok,
         touched: rows,

@@ -6,7 +6,7 @@ ghost use lib.ListN.{getD};
 ghost use Rattle.monitor.specs.Ticks.{firstMarked, marksAfter};
 
 // Whether eight letters are ahead of which none is marked. They are looked at together, as one word when compiled.
-fn quiet(marks: &[u8; 288], from: usize, to: usize) -> bool
+pub(crate) fn quiet(marks: &[u8; 288], from: usize, to: usize) -> bool
     requires { ⌜ (from < to) × (to ≤ 256) ⌝ }
     ensures { λ r. ⌜ (r ≡ true → (from + 8 ≤ to) × ((i : ℕ) → i < 8 → getD (now (marks .entry)) (from + i) 0 ≡ 0)) ⌝ }
 {

@@ -4,7 +4,7 @@ use super::walk::ask;
 use super::walk::leave;
 use words::least;
 ghost use mathlib.Core.Path.{_≡_};
-ghost use Prim.Native.Nat.{_-_, _<_, _≤_};
+ghost use Prim.Native.Nat.{_-_, _<_, _≤_, min};
 ghost use Rattle.monitor.specs.Letters.{given};
 ghost use Rattle.monitor.specs.Walk.{told};
 ghost use Rattle.monitor.specs.Ticks.{layout, letterGoes, lettersGo, startGoes, lettersEnd, monitorGoes, reached, monitorsGo};
@@ -80,15 +80,17 @@ fn start_goes(
     ask(wide(own[monitor]), STEPS, tables, memory, words, values)
 }
 
-// Where a monitor's letters end.
-fn letters_end(firsts: &[u16; 32], monitors: usize, letters: usize, monitor: usize) -> usize
-    requires { ⌜ (monitor < monitors) × (monitors ≤ 32) × (letters ≤ 256) ⌝ }
-    ensures { λ r. ⌜ (r ≡ lettersEnd (now (firsts .entry)) monitors letters monitor) × (r ≤ 256) ⌝ }
+// Where the letters of a monitor end, of 32 monitors and 256 letters at most.
+pub fn letters_end(firsts: &[u16; 32], monitors: usize, letters: usize, monitor: usize) -> usize
+    ensures { λ r. ⌜ (r ≡ lettersEnd (now (firsts .entry)) (min monitors 32) (min letters 256) monitor) × (r ≤ 256) ⌝ }
 {
+    if 31 <= monitor {
+        return least(letters, 256);
+    }
     if monitor + 1 < monitors {
         return least(wide(firsts[monitor + 1]), 256);
     }
-    letters
+    least(letters, 256)
 }
 
 // Every active position of a monitor.

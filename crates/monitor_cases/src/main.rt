@@ -54,7 +54,8 @@ fn marked(starts: u8) -> [u8; 288] {
     marks
 }
 
-// A look and a take of a word by 32 monitors, each with row 0 as its own and the last with all 256 letters.
+// A look and a take of a word by 32 monitors, each with row 0 as its own and the last with all 256 letters, each met as often as can be
+// told.
 fn call(table: [u64; 1024], starts: u8, ticks: u64, stopped: bool) {
     let places = fourth();
     let marks = marked(starts);
@@ -77,6 +78,7 @@ fn call(table: [u64; 1024], starts: u8, ticks: u64, stopped: bool) {
         values: [0; 16],
         marks,
         ticks,
+        totals: [4294967295; 256],
         stopped,
     };
     let looked = monitor::look(watch, 0);

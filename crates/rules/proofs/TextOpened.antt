@@ -62,6 +62,7 @@ raw A r l n w s k m p =
       values = k;
       marks = m;
       ticks = 0;
+      totals = replicate 256 0;
       stopped = false;
     }
 
@@ -132,6 +133,7 @@ module _ (text : List ℕ) (short : length text ≤ 16384) (f pos free wires sto
             values = kept;
             marks = marks;
             ticks = 0;
+            totals = replicate 256 0;
             stopped = false;
           })
       unfolding watchOf countsOf asOpened raw

@@ -24,7 +24,7 @@ unfoldable pub lettersFrom : (r : ℕ) → (kinds : List ℕ) → List ℕ
 lettersFrom r [] = []
 lettersFrom r (k ∷ ks) = cond (eqb k 0) (r ∷ lettersFrom (suc r) ks) (lettersFrom (suc r) ks)
 
--- a watch of these arrays; W1: "tick count 0, the first values in its stores, 0 as the word before and each monitor at its start, and is not stopped"
+-- a watch of these arrays; W1: "tick count 0, the first values in its stores, 0 as the word before and each monitor at its start, and is not stopped. No letter was met yet."
 abbrev pub watchBy : Lists → (rows letters monitors wires : ℕ) → (initial : List ℕ) → Watch
 watchBy A r l m w vs =
     record {
@@ -46,6 +46,7 @@ watchBy A r l m w vs =
       values = sets (replicate 16 0) 0 vs;
       marks = sets (replicate 288 0) 256 (replicate m 1);
       ticks = 0;
+      totals = replicate 256 0;
       stopped = false;
     }
 

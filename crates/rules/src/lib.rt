@@ -28,7 +28,7 @@ ghost use Rattle.rules.specs.Watches.{noLists, lettersFrom, watchBy, wat
 // A watch. Each row in one word, and letters, as `lay` has them (specs/Laying.antt); each letter's row; each
 // monitor's own row and first letter; how many rows, letters, monitors, wires and stores there are; the word
 // of the last ok tick, 0 at first; the store values; a mark for each active letter and, from 256 on, for each monitor at its
-// start; how many ticks were ok, and whether one was bad.
+// start; how many ticks were ok, at how many of them each letter was met, and whether a tick was bad.
 // Between large arrays stands a number: the compiler then copies each array to its place, without a whole watch on the way.
 pub struct Watch {
     pub table: [u64; 1024],
@@ -49,6 +49,7 @@ pub struct Watch {
     pub values: [u64; 16],
     pub marks: [u8; 288],
     pub ticks: u64,
+    pub totals: [u32; 256],
     pub stopped: bool,
 }
 
@@ -87,6 +88,7 @@ fn no_watch() -> Watch
         values: [0; 16],
         marks: [0; 288],
         ticks: 0,
+        totals: [0; 256],
         stopped: false,
     }
 }
@@ -214,6 +216,7 @@ fn open_in(text: &[u8], words: &mut [u64]) -> Start
         values: kept,
         marks,
         ticks: 0,
+        totals: [0; 256],
         stopped: false,
     };
     Start {
@@ -246,8 +249,8 @@ fn open_large(text: &[u8]) -> Start
     open_in(text, &mut words)
 }
 
-// Opens a rule text: a watch with tick count 0, the first store values and each monitor at its start, and both counts; or
-// the refusal. The words that it is read into are few where the text is short.
+// Opens a rule text: a watch with tick count 0, the first store values, each monitor at its start and no letter met, and
+// both counts; or the refusal. The words that it is read into are few where the text is short.
 pub fn open(text: &[u8]) -> Start
     ensures { λ r. ⌜ (shownOutcome (r .outcome) ≡ countsOf (openText (now (text .entry)))) × (r .watch ≡ watchOf (openText (now (text .entry)))) ⌝ }
 {

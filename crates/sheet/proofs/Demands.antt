@@ -39,6 +39,7 @@ use Rattle.meaning.specs.Acceptance.{Written, Acceptable, TurnedAway}
 use Rattle.meaning.specs.Table.{laidAll}
 use Rattle.meaning.specs.Numbered.{numberedFrom}
 use Rattle.meaning.specs.Touched.{touched}
+use Rattle.meaning.specs.Totals.{totals, sum, metOver}
 use Rattle.meaning.specs.Calls.{Call, look, take, replyIn, standing, taken, takenReplies, AllAnswered}
 use Rattle.meaning.specs.Lists.{_∈_}
 use Rattle.meaning.specs.Expression.{Letter, Exp, letters, own}
@@ -51,6 +52,7 @@ use Rattle.meaning.proofs.Rows.{rows-no-more}
 use Rattle.meaning.proofs.Openings as openings
 use Rattle.meaning.proofs.Requires as requires
 use Rattle.meaning.proofs.StartEnds as ends
+use Rattle.meaning.proofs.Totals as totals-laws
 use Rattle.masks.proofs.passes.Statement as passes
 use Rattle.masks.proofs.passes.Met as passes-met
 use Rattle.rules.specs.Laying.{rowWord, codeOf}
@@ -60,7 +62,7 @@ use Rattle.rules.proofs.open.Statement as open-text
 use Rattle.rules.proofs.open.Met as open-text-met
 use Rattle.counts.proofs.counts_of.Statement as counts-of
 use Rattle.counts.proofs.counts_of.Met as counts-of-met
-use Rattle.monitor.specs.Calls.{replyOf, watchAfter, repliesOf, answersOf, watchAfterAll, visitsOn, Held}
+use Rattle.monitor.specs.Calls.{replyOf, watchAfter, repliesOf, answersOf, watchAfterAll, visitsOn, totalsOf, Held}
 use Rattle.monitor.proofs.Program as program
 use Rattle.monitor.proofs.Calls as calls
 use Rattle.monitor.proofs.Looks as looks
@@ -74,6 +76,10 @@ use Rattle.monitor.proofs.tables_of.Statement as tables-of
 use Rattle.monitor.proofs.tables_of.Met as tables-of-met
 use Rattle.monitor.proofs.touched.Statement as touched-by
 use Rattle.monitor.proofs.touched.Met as touched-by-met
+use Rattle.monitor.proofs.count_met.Statement as count-met
+use Rattle.monitor.proofs.count_met.Met as count-met-met
+use Rattle.monitor.proofs.letters_end.Statement as letters-end
+use Rattle.monitor.proofs.letters_end.Met as letters-end-met
 use Rattle.monitor.proofs.is_bad.Statement as is-bad
 use Rattle.monitor.proofs.is_bad.Met as is-bad-met
 use Rattle.monitor.proofs.refused_by.Statement as refused-by
@@ -90,6 +96,8 @@ use Rattle.sheet.proofs.run.Statement as run
 use Rattle.sheet.proofs.run.Met as run-met
 use Rattle.sheet.proofs.finish.Statement as finish
 use Rattle.sheet.proofs.finish.Met as finish-met
+use Rattle.sheet.proofs.totals.Statement as totals-of
+use Rattle.sheet.proofs.totals.Met as totals-of-met
 use Rattle.sheet.proofs.linewatch_sheet.Statement as linewatch-sheet
 use Rattle.sheet.proofs.linewatch_sheet.Met as linewatch-sheet-met
 use Rattle.sheet.proofs.linewatch_write_record.Statement as write-record
@@ -126,6 +134,10 @@ run-entry = run-met.met
 pub finish-entry : {M : Type 1} → finish.statement M
 finish-entry = finish-met.met
 
+-- the totals of a watch, as at the foot of its sheet
+pub totals-entry : {M : Type 1} → totals-of.statement M
+totals-entry = totals-of-met.met
+
 -- what a look and a take do on lent tables with a word that is not refused, whether that ended at a monitor that does not go on, a watch's tables, and 16, 17, 15
 pub peek-entry : {M : Type 1} → peek.statement M
 peek-entry = peek-met.met
@@ -145,6 +157,13 @@ counts-of-entry = counts-of-met.met
 
 pub touched-entry : {M : Type 1} → touched-by.statement M
 touched-entry = touched-by-met.met
+
+-- how often each letter was met, after a good tick; and where the letters of a monitor end
+pub count-met-entry : {M : Type 1} → count-met.statement M
+count-met-entry = count-met-met.met
+
+pub letters-end-entry : {M : Type 1} → letters-end.statement M
+letters-end-entry = letters-end-met.met
 
 pub refused-by-entry : {M : Type 1} → refused-by.statement M
 refused-by-entry = refused-by-met.met
@@ -245,10 +264,20 @@ pub visits-few : (text : List ℕ) (o : Opened) → openText text ≡ value o �
     → visitsOn (watchAfterAll (watchOf (value o)) cs) w ≤ 3 * touched (o .monitors) (standing (o .monitors) (o .initial) (o .wires) cs .inner .ticks)
 visits-few = visited.visits-few
 
--- And the watch then has the tick count, the stop, the word before and the store values that the meaning fixes; all else of it but the marks is as opening gave it.
+-- And the watch then has the tick count, the stop, the word before, the store values and how often each letter was met that the meaning fixes; all else of it but the marks is as
+-- opening gave it.
 pub watch-held : (text : List ℕ) (o : Opened) → openText text ≡ value o → (cs : List Call)
-    → Held (watchOf (value o)) (watchAfterAll (watchOf (value o)) cs) (standing (o .monitors) (o .initial) (o .wires) cs)
+    → Held (o .monitors) (watchOf (value o)) (watchAfterAll (watchOf (value o)) cs) (standing (o .monitors) (o .initial) (o .wires) cs)
 watch-held = calls.watch-held
+
+-- Monitor by monitor, what the watch counted, which is printed at the foot of the sheet, is how often each letter was met over the words of the ok takes.
+pub totals-right : (text : List ℕ) (o : Opened) → openText text ≡ value o → (cs : List Call)
+    → totalsOf (watchAfterAll (watchOf (value o)) cs) ≡ totals (o .monitors) (standing (o .monitors) (o .initial) (o .wires) cs .inner .ticks)
+totals-right = calls.totals-right
+
+-- The sum of these numbers over all letters is the sum over the ticks of how many letters are met there.
+pub sum-over-ticks : (ms : List Exp) (ts : List Tick) → sum (totals ms ts) ≡ metOver ms [] ts
+sum-over-ticks = totals-laws.sum-over-ticks
 
 -- A reply is judged by `Fit`, and that by F17: words fit a monitor exactly if some branch, of all that F6 to F13 allow, has at no tick two letters of one thread, a letter counted as
 -- often as it stands there.

@@ -11,6 +11,8 @@ mod SheetSteps
 mod PageSteps
 -- each line from its pieces
 mod LineSteps
+-- the lines at the foot, by the loops of the code
+mod FootSteps
 -- the kept line of a good tick: laid out, counted on, and given its word
 mod LaidSteps
 -- however a trace is cut, `begin`, the runs and `finish` print the sheet of the whole

@@ -7,7 +7,8 @@ use native.Mathlib.Omega.{arith}
 use lib.ListN.{length, length-append}
 use lib.Seq.{sets}
 use Rattle.lexer.specs.Bytes.{bytes}
-use Rattle.meaning.specs.Sheet.{decimal, hexadecimal, line, refusalLine, countsLine, cleanLine}
+use Rattle.meaning.specs.Totals.{sum}
+use Rattle.meaning.specs.Sheet.{decimal, hexadecimal, line, refusalLine, countsLine, cleanLine, metLine, totalLine, foot, allMetLines}
 use Rattle.sheet.specs.Lines.{badLine, tickFront}
 use Rattle.sheet.proofs.PageSteps.{Put, put-two}
 
@@ -89,3 +90,30 @@ pub clean-put : (n : ℕ) {o o₁ o₂ o₃ : List ℕ} {a a₁ a₂ a₃ : ℕ}
     → Put o a (bytes "clean ") o₁ a₁ → Put o₁ a₁ (decimal n) o₂ a₂ → Put o₂ a₂ (10 ∷ []) o₃ a₃ → length (decimal n) ≤ 20
     → Line o a (cleanLine n) o₃ a₃ 64
 clean-put n p₁ p₂ p₃ l₁ = as-line (clean-line n) (then (all p₁) (then (up-to p₂ l₁) (all p₃))) (omega arith)
+
+-- ---- the foot
+
+met-line : (i j c : ℕ) → bytes "met " ++ (decimal i ++ ((32 ∷ []) ++ (decimal j ++ ((32 ∷ []) ++ (decimal c ++ (10 ∷ [])))))) ≡ metLine i j c
+unfolding metLine line
+met-line i j c = refl
+
+pub met-put : (i j c : ℕ) {o o₁ o₂ o₃ o₄ o₅ o₆ o₇ : List ℕ} {a a₁ a₂ a₃ a₄ a₅ a₆ a₇ : ℕ}
+    → Put o a (bytes "met ") o₁ a₁ → Put o₁ a₁ (decimal i) o₂ a₂ → Put o₂ a₂ (32 ∷ []) o₃ a₃ → Put o₃ a₃ (decimal j) o₄ a₄ → Put o₄ a₄ (32 ∷ []) o₅ a₅ → Put o₅ a₅ (decimal c) o₆ a₆ → Put o₆ a₆ (10 ∷ []) o₇ a₇
+    → length (metLine i j c) ≤ 24 → Line o a (metLine i j c) o₇ a₇ 24
+met-put i j c {o} {a} p₁ p₂ p₃ p₄ p₅ p₆ p₇ l =
+    let p = put-two p₁ (put-two p₂ (put-two p₃ (put-two p₄ (put-two p₅ (put-two p₆ p₇))))) in
+    (p .wrote ∙ ap (sets o a) (met-line i j c), p .behind ∙ ap (λ (zs : List ℕ). a + length zs) (met-line i j c), l)
+
+total-line : (n : ℕ) → bytes "total " ++ (decimal n ++ (10 ∷ [])) ≡ totalLine n
+unfolding totalLine line
+total-line n = refl
+
+-- behind the lines of the letters
+pub foot-put : (css : List (List ℕ)) (n : ℕ) {o o₁ o₂ o₃ o₄ : List ℕ} {a a₁ a₂ a₃ a₄ : ℕ}
+    → Put o a (allMetLines 0 css) o₁ a₁ → n ≡ sum css → a₁ ≤ a + 196608 → Put o₁ a₁ (bytes "total ") o₂ a₂ → Put o₂ a₂ (decimal n) o₃ a₃ → Put o₃ a₃ (10 ∷ []) o₄ a₄ → length (decimal n) ≤ 20
+    → (o₄ ≡ sets o a (foot css)) × (a₄ ≡ a + length (foot css)) × (a₄ ≤ a + 196672)
+unfolding foot
+foot-put css n {o} {a} p e h p₁ p₂ p₃ l =
+    let q = put-two p (put-two p₁ (put-two p₂ p₃)) in
+    let f = ap (λ (zs : List ℕ). allMetLines 0 css ++ zs) (total-line n ∙ ap totalLine e) in
+    (q .wrote ∙ ap (sets o a) f, q .behind ∙ ap (λ (zs : List ℕ). a + length zs) f, omega (arith, h, p₁ .behind, p₂ .behind, p₃ .behind, l))

@@ -69,9 +69,12 @@ digits-short (suc k) d n ds h = by d h (n / 10) refl (digits-short k)
         let l : n / 10 < 10 ^ suc d = div-lt-iff-lt-mul {k = 10} {x = n} {y = 10 ^ suc d} (omega arith) .1 (subst (λ (x : ℕ). n < x) (pow-suc 10 (suc d)) h) in
         rw (e, digitsIn) (le-trans (more d (n / 10) (_ ∷ ds) l) (omega arith))
 
-pub decimal-short : (n : ℕ) → n < 10 ^ 20 → length (decimal n) ≤ 20
+pub decimal-within : (d n : ℕ) → n < 10 ^ suc d → length (decimal n) ≤ suc d
 unfolding decimal
-decimal-short n h = omega (arith, digits-short n 19 n [] h)
+decimal-within d n h = omega (arith, digits-short n d n [] h)
+
+pub decimal-short : (n : ℕ) → n < 10 ^ 20 → length (decimal n) ≤ 20
+decimal-short n h = decimal-within 19 n h
 
 -- a count of at least the number does not run out
 enough : (j k n : ℕ) (ds : List ℕ) → n ≤ j → n ≤ k → digitsIn 10 j n ds ≡ digitsIn 10 k n ds

@@ -20,9 +20,9 @@ use Rattle.rules.specs.declared.Watch.{Watch}
 use Rattle.rules.proofs.Overlay.{sets-behind}
 use Rattle.monitor.specs.Calls.{stateOf, withState, tablesOf, givenOf, layoutOf, stepFrom, refusedBy, replyOf, watchAfter}
 use Rattle.monitor.specs.Letters.{Given, given}
-use Rattle.monitor.specs.Ticks.{Layout, within, Reached, Move, move, moveBy, marksAfter, writeMarked, writers, monitorsGo, emptyMemory, shutBusy, stepWithin, stepOf, stuckAt}
+use Rattle.monitor.specs.Ticks.{Layout, within, Reached, Move, move, moveBy, marksAfter, writeMarked, writers, countMet, monitorsGo, emptyMemory, shutBusy, stepWithin, stepOf, stuckAt}
 use Rattle.monitor.proofs.TickSteps.{lent-step, take-refused, take-bad, take-ok, few-ticks, one-tick}
-use Rattle.sheet.specs.Lines.{Run, run, Ran, ran, printing, onReply, onRead, okLine, badLine, runOn, runOver}
+use Rattle.sheet.specs.Lines.{Run, run, Ran, ran, printing, onReply, onRead, okLine, badLine, footOf, runOn, runOver}
 use Rattle.sheet.specs.Items.{itemOf}
 use Rattle.sheet.specs.declared.ticking.Item.{Item as CodeItem}
 use Rattle.sheet.specs.declared.ticking.Ran.{Ran as CodeRan}
@@ -131,8 +131,8 @@ pub record Going (v₀ : Watch) (b₀ : ℕ) (records out₀ : List ℕ) (at : �
   pub early : at ≤ 128
 
 -- the watch with what moved
-abbrev pub moved : Watch → (marks values : List ℕ) → (last ticks : ℕ) → Watch
-moved v K σ b n = withState v (record { inner = record { marks = K; values = σ; last = b }; oks = n; stopped = v .stopped })
+abbrev pub moved : Watch → (marks values : List ℕ) → (last : ℕ) → (totals : List ℕ) → (ticks : ℕ) → Watch
+moved v K σ b N n = withState v (record { inner = record { marks = K; values = σ; last = b; totals = N }; oks = n; stopped = v .stopped })
 
 pub going-none : (v : Watch) (b : ℕ) (records out : List ℕ) (at : ℕ) → at ≤ 128 → Going v b records out at out v b 0 at
 going-none v b records out at h =
@@ -142,7 +142,7 @@ going-none v b records out at h =
 abbrev Left : Ran → (records out₀ : List ℕ) → (at : ℕ) → (out : List ℕ) → (s : Run) → (used stop : ℕ) → (ended : Bool) → Type 0
 Left x records out₀ at out s used stop ended =
     (s ≡ x .after) × (drop used records ≡ x .left) × (ended ≡ x .ended) × (out ≡ sets out₀ at (x .printed))
-    × (stop ≡ at + length (x .printed)) × (used ≤ length records) × (stop ≤ 64000200)
+    × (stop ≡ at + length (x .printed)) × (used ≤ length records) × (stop ≤ 64200200)
 
 module _ {v₀ : Watch} {b₀ : ℕ} {records out₀ : List ℕ} {at : ℕ} {out : List ℕ} {v : Watch} {last used place : ℕ}
     (m : Going v₀ b₀ records out₀ at out v last used place) where
@@ -151,6 +151,9 @@ module _ {v₀ : Watch} {b₀ : ℕ} {records out₀ : List ℕ} {at : ℕ} {out
 
   pub kept-put : (new line : List ℕ) → new ≡ sets out place line → length new ≡ length out₀
   kept-put new line e = ap length e ∙ length-sets out place line ∙ kept
+
+  pub kept-foot : (mid line : List ℕ) → mid ≡ sets out place line → (new : List ℕ) (behind : ℕ) (foot : List ℕ) → new ≡ sets mid behind foot → length new ≡ length out₀
+  kept-foot mid line e new behind foot f = ap length f ∙ length-sets mid behind foot ∙ kept-put mid line e
 
   -- by the struct that is returned
   pub left-by : (new : List ℕ) (r u : CodeRan) → r ≡ u → Left (runOver (run v₀ b₀) records) records out₀ at new (run (u .watch) (u .before)) (u .used) (u .at) (u .ended)
@@ -161,8 +164,8 @@ module _ {v₀ : Watch} {b₀ : ℕ} {records out₀ : List ℕ} {at : ℕ} {out
   rest = drop used records
 
   going-left : (line : List ℕ) (s : Run) (b : Bool) (new : List ℕ) (stop : ℕ) → runOver (run v last) rest ≡ ran line s rest b
-      → new ≡ sets out place line → stop ≡ place + length line → length line ≤ 64 → Left (runOver (run v₀ b₀) records) records out₀ at new s used stop b
-  going-left line s b new stop e f g l =
+      → new ≡ sets out place line → stop ≡ place + length line → stop ≤ place + 196736 → Left (runOver (run v₀ b₀) records) records out₀ at new s used stop b
+  going-left line s b new stop e f g bound =
       let w : runOver (run v₀ b₀) records ≡ ran (m .done ++ line) s rest b = m .whole ∙ ap (printing (m .done)) e in
       let p : runOver (run v₀ b₀) records .printed ≡ m .done ++ line = ap (λ (x : Ran). x .printed) w in
       let a = length-append (m .done) line in (
@@ -172,7 +175,7 @@ module _ {v₀ : Watch} {b₀ : ℕ} {records out₀ : List ℕ} {at : ℕ} {out
         f ∙ ap (λ (x : List ℕ). sets x place line) (m .put) ∙ sets-behind out₀ at place (m .done) line (runOver (run v₀ b₀) records .printed) (m .behind) p,
         (let q : stop ≡ at + length (m .done ++ line) = omega (arith, m .behind, a, g) in q ∙ ap (λ (x : List ℕ). at + length x) (sym p)),
         m .within,
-        omega (arith, m .few, g, l),
+        omega (arith, m .few, bound),
       )
 
   abbrev Leaves : (line : List ℕ) → (s : Run) → Bool → Type 0
@@ -204,11 +207,11 @@ module _ {v₀ : Watch} {b₀ : ℕ} {records out₀ : List ℕ} {at : ℕ} {out
 
     -- an idle byte
     pub going-idle : (number ≡ 13 → ⊥) → (number ≡ 0 → ⊥) → Leaves (refusalLine number (v .ticks ∷ [])) (run v last) true
-    going-idle h z new stop =
+    going-idle h z new stop p q l =
         going-left (refusalLine number (v .ticks ∷ [])) (run v last) true new stop
         (run-step (run v last) rest
         ∙ read-refused (readRecord rest last) (run v last) rest runOver (λ q. h (numbered ∙ q)) (λ q. z (numbered ∙ q))
-        ∙ ap (λ (k : ℕ). ran (refusalLine k (v .ticks ∷ [])) (run v last) rest true) (sym numbered))
+        ∙ ap (λ (k : ℕ). ran (refusalLine k (v .ticks ∷ [])) (run v last) rest true) (sym numbered)) p q (omega (arith, q, l))
 
     module _ (z : number ≡ 0) where
       read : readRecord rest last ≡ value (word w n)
@@ -227,11 +230,11 @@ module _ {v₀ : Watch} {b₀ : ℕ} {records out₀ : List ℕ} {at : ℕ} {out
 
       module _ (k : ℕ) (d : k ≡ refusedBy (v .stopped) (v .ticks) (v .wires) w) where
         pub going-refused : (k ≡ 0 → ⊥) → Leaves (refusalLine k (v .ticks ∷ [])) (run v last) true
-        going-refused h new stop =
+        going-refused h new stop p q l =
             let c = take-refused v w k d h in
             going-left (refusalLine k (v .ticks ∷ [])) (run v last) true new stop
             (replied-with (calls.refused k 0) (sym (c .0))
-            ∙ ap (λ (u : Watch). ran (refusalLine k (v .ticks ∷ [])) (run u last) rest true) (sym (c .1)))
+            ∙ ap (λ (u : Watch). ran (refusalLine k (v .ticks ∷ [])) (run u last) rest true) (sym (c .1))) p q (omega (arith, q, l))
 
         pub going-few : k ≡ 0 → v .ticks < 1000000
         going-few q = few-ticks v w k d q
@@ -241,23 +244,29 @@ module _ {v₀ : Watch} {b₀ : ℕ} {records out₀ : List ℕ} {at : ℕ} {out
           s : move i K σ ≡ stepFrom v (stateOf v .inner) w
           s = lent-step v (stateOf v .inner) w t (move i K σ) lent stepped
 
-          pub going-bad : b ≡ true → Leaves (badLine (v .ticks) w i) (run (withState v (record { inner = record { marks = K; values = σ; last = v .before }; oks = v .ticks; stopped = true })) last) true
-          going-bad y new stop =
-              let u = withState v (record { inner = record { marks = K; values = σ; last = v .before }; oks = v .ticks; stopped = true }) in
+          -- the line of a bad tick, and the foot behind it
+          pub going-bad : b ≡ true → (mid : List ℕ) (behind : ℕ) → mid ≡ sets out place (badLine (v .ticks) w i) → behind ≡ place + length (badLine (v .ticks) w i) → length (badLine (v .ticks) w i) ≤ 64
+              → (new : List ℕ) (stop : ℕ) → new ≡ sets mid behind (footOf v) → stop ≡ behind + length (footOf v) → stop ≤ behind + 196672
+              → Left (runOver (run v₀ b₀) records) records out₀ at new (run (withState v (record { inner = record { marks = K; values = σ; last = v .before; totals = v .totals }; oks = v .ticks; stopped = true })) last) used stop true
+          going-bad y mid behind g x short new stop e r bound =
+              let u = withState v (record { inner = record { marks = K; values = σ; last = v .before; totals = v .totals }; oks = v .ticks; stopped = true }) in
               let h = ltb-true i (min (v .monitors) 32) (sym f ∙ y) in
-              let t = ap (λ (x : Move). withState v (record { inner = record { marks = x .marks; values = x .values; last = v .before }; oks = v .ticks; stopped = true })) (bad-keeps (givenOf v (v .values) (w ∷ v .before ∷ [])) (layoutOf v) (v .marks) i K σ s h) in
+              let t = ap (λ (x : Move). withState v (record { inner = record { marks = x .marks; values = x .values; last = v .before; totals = v .totals }; oks = v .ticks; stopped = true })) (bad-keeps (givenOf v (v .values) (w ∷ v .before ∷ [])) (layoutOf v) (v .marks) i K σ s h) in
               let c = take-bad v w k d q i K σ s b f u y t in
-              going-left (badLine (v .ticks) w i) (run u last) true new stop
+              let line = badLine (v .ticks) w i in
+              let l = length-append line (footOf v) in
+              going-left (line ++ footOf v) (run u last) true new stop
               (replied-with (calls.bad i) (sym (c .0))
-              ∙ ap (λ (u : Watch). ran (badLine (v .ticks) w i) (run u last) rest true) (sym (c .1)))
+              ∙ ap (λ (u : Watch). ran (line ++ footOf v) (run u last) rest true) (sym (c .1)))
+              (e ∙ ap (λ (z : List ℕ). sets z behind (footOf v)) g ∙ sets-behind out place behind line (footOf v) (line ++ footOf v) x refl) (omega (arith, r, x, l)) (omega (arith, x, bound, short))
 
-          abbrev next : Watch
-          next = withState v (record { inner = record { marks = K; values = σ; last = w }; oks = v .ticks + 1; stopped = v .stopped })
+          abbrev next : List ℕ → Watch
+          next N = withState v (record { inner = record { marks = K; values = σ; last = w; totals = N }; oks = v .ticks + 1; stopped = v .stopped })
 
-          pub going-ok : b ≡ false → (new : List ℕ) (stop : ℕ) → new ≡ sets out place (okLine (v .ticks) w) → stop ≡ place + length (okLine (v .ticks) w)
-              → length (okLine (v .ticks) w) ≤ 64 → Going v₀ b₀ records out₀ at new next w (used + n) stop
-          going-ok y new stop g h l =
-              let c = take-ok v w k d q i K σ s b f next y (one-tick v K σ w) in
+          pub going-ok : b ≡ false → (N : List ℕ) → N ≡ countMet K (min (v .letters) 256) (v .totals) → (new : List ℕ) (stop : ℕ) → new ≡ sets out place (okLine (v .ticks) w) → stop ≡ place + length (okLine (v .ticks) w)
+              → length (okLine (v .ticks) w) ≤ 64 → Going v₀ b₀ records out₀ at new (next N) w (used + n) stop
+          going-ok y N counted new stop g h l =
+              let c = take-ok v w k d q i K σ s b f (next N) y N counted (one-tick v K σ N w) in
               let t = few-ticks v w k d q in
               let a = length-append (m .done) (okLine (v .ticks) w) in
               record {

@@ -18,28 +18,31 @@ use Rattle.rules.specs.declared.Outcome.{Outcome}
 use Rattle.rules.specs.declared.Watch.{Watch}
 use Rattle.rules.specs.Watches.{watchOf, shownOutcome}
 use Rattle.rules.proofs.Overlay.{sets-behind}
-use Rattle.sheet.specs.Lines.{Run, run, Ran, runOver, lastLine, closed, isRefused}
+use Rattle.sheet.specs.Lines.{Run, run, Ran, runOver, lastLines, closing, closed, isRefused}
 use Rattle.sheet.proofs.Lengths as lengths
 use Rattle.sheet.proofs.Printed.{sheet-printed}
 
--- ---- the last line
+-- ---- the last lines
 
-module _ (t at left : ℕ) (out new : List ℕ) (r : ℕ) where
+module _ (t at left : ℕ) (foot out new : List ℕ) (r : ℕ) where
   abbrev Last : Type 0
-  Last = (new ≡ sets out at (lastLine t left)) × (r ≡ at + length (lastLine t left)) × (r ≤ at + 64)
+  Last = (new ≡ sets out at (lastLines t foot left)) × (r ≡ at + length (lastLines t foot left))
 
-  -- it is found to be this line
-  last-is : (line : List ℕ) → line ≡ lastLine t left → new ≡ sets out at line → r ≡ at + length line → length line ≤ 64 → Last
-  last-is line q e f l = (e ∙ ap (sets out at) q, f ∙ ap (λ (x : List ℕ). at + length x) q, omega (arith, f, l))
+  -- they are found to be these
+  last-are : (lines : List ℕ) → lines ≡ lastLines t foot left → new ≡ sets out at lines → r ≡ at + length lines → Last
+  last-are lines q e f = (e ∙ ap (sets out at) q, f ∙ ap (λ (x : List ℕ). at + length x) q)
 
-  pub last-clean : left ≡ 0 → new ≡ sets out at (cleanLine t) → r ≡ at + length (cleanLine t) → length (cleanLine t) ≤ 64 → Last
-  last-clean z = last-is (cleanLine t) (ap (lastLine t) (sym z))
+  -- the clean line, and the foot behind it
+  pub last-clean : left ≡ 0 → (mid : List ℕ) (behind : ℕ) → mid ≡ sets out at (cleanLine t) → behind ≡ at + length (cleanLine t) → new ≡ sets mid behind foot → r ≡ behind + length foot → Last
+  last-clean z mid behind p q e f =
+      let l = length-append (cleanLine t) foot in
+      last-are (cleanLine t ++ foot) (ap (lastLines t foot) (sym z))
+      (e ∙ ap (λ (x : List ℕ). sets x behind foot) p ∙ sets-behind out at behind (cleanLine t) foot (cleanLine t ++ foot) q refl) (omega (arith, f, q, l))
 
-  pub last-torn : (left ≡ 0 → ⊥) → new ≡ sets out at (refusalLine torn (t ∷ [])) → r ≡ at + length (refusalLine torn (t ∷ []))
-      → length (refusalLine torn (t ∷ [])) ≤ 64 → Last
-  last-torn z = last-is (refusalLine torn (t ∷ [])) (some-left left z)
+  pub last-torn : (left ≡ 0 → ⊥) → new ≡ sets out at (refusalLine torn (t ∷ [])) → r ≡ at + length (refusalLine torn (t ∷ [])) → Last
+  last-torn z = last-are (refusalLine torn (t ∷ [])) (some-left left z)
     where
-      some-left : (n : ℕ) → (n ≡ 0 → ⊥) → refusalLine torn (t ∷ []) ≡ lastLine t n
+      some-left : (n : ℕ) → (n ≡ 0 → ⊥) → refusalLine torn (t ∷ []) ≡ lastLines t foot n
       some-left zero h = absurd (h refl)
       some-left (suc n) h = refl
 
@@ -94,18 +97,18 @@ module _ (x : meaning.Answer Counts) (v : Watch) (records first : List ℕ) (n :
       pub rest-ended : ended ≡ true → Rest new r
       rest-ended t =
           by-lines (u .printed) new r
-          (opened (u .printed) (sym (append-nil (u .printed)) ∙ ap (λ (z : Bool). u .printed ++ cond z [] (lastLine (u .after .watch .ticks) (length (u .left)))) (sym t ∙ c))) p q
+          (opened (u .printed) (sym (append-nil (u .printed)) ∙ ap (λ (z : Bool). u .printed ++ cond z [] (closing (u .after .watch) (length (u .left)))) (sym t ∙ c))) p q
 
-      -- the ticks of the run a, and the bytes that are left
+      -- by the watch of the run a, and the bytes that are left
       pub rest-closed : ended ≡ false → (a : Run) (used : ℕ) → a ≡ u .after → drop used records ≡ u .left → (last : List ℕ) (k : ℕ)
-          → last ≡ sets new r (lastLine (a .watch .ticks) (length records - used)) → k ≡ r + length (lastLine (a .watch .ticks) (length records - used)) → Rest last k
+          → last ≡ sets new r (closing (a .watch) (length records - used)) → k ≡ r + length (closing (a .watch) (length records - used)) → Rest last k
       rest-closed t a used i j last k e h =
-          let l = lastLine (a .watch .ticks) (length records - used) in
+          let l = closing (a .watch) (length records - used) in
           let o = length-append (u .printed) l in
           by-lines (u .printed ++ l) last k
           (opened (u .printed ++ l)
-          (ap₂ (λ (s : Run) (m : ℕ). u .printed ++ lastLine (s .watch .ticks) m) i (sym (length-drop used records) ∙ ap length j)
-          ∙ ap (λ (z : Bool). u .printed ++ cond z [] (lastLine (u .after .watch .ticks) (length (u .left)))) (sym t ∙ c)))
+          (ap₂ (λ (s : Run) (m : ℕ). u .printed ++ closing (s .watch) m) i (sym (length-drop used records) ∙ ap length j)
+          ∙ ap (λ (z : Bool). u .printed ++ cond z [] (closing (u .after .watch) (length (u .left)))) (sym t ∙ c)))
           (e ∙ ap (λ (m : List ℕ). sets m r l) p ∙ sets-behind first n r (u .printed) l (u .printed ++ l) q refl) (omega (arith, h, q, o))
 
 -- the first line and the rest behind it are the sheet
@@ -124,11 +127,12 @@ module _ (text records : List ℕ) (x : meaning.Answer Counts) (v : Watch) (d : 
       let k : r ≡ length (firstLine x ++ rest x v records) = omega (arith, q, f, g) in k ∙ ap length joined
 
   -- it is short, behind a first line that is
-  pub sheet-bound : n ≤ 128 → r ≤ 192 + 64 * min (length records) 1000000
+  pub sheet-bound : n ≤ 128 → r ≤ 256 + 24 * min (v .letters) 256 + 64 * min (length records) 1000000
   sheet-bound l =
       let e = ap (λ (y : meaning.Answer Counts). length (firstLine y)) d in
       let h = lengths.sheet-short text records (omega (arith, f, e, l)) in
-      omega (arith, sheet-long, h)
+      let k = ap (λ (u : Watch). u .letters) w in
+      omega (arith, sheet-long, h, k)
 
   pub sheet-whole : (out first new : List ℕ) → first ≡ sets out 0 (firstLine x) → new ≡ sets first n (rest x v records) → new ≡ sets out 0 (sheet text records)
   sheet-whole out first new e p =
@@ -152,15 +156,11 @@ module _ (text records range : List ℕ) (n : ℕ) (long : n ≡ length (sheet t
       (ap numberOrZero (p .0), p .1)
 
   -- where there is surely room
-  pub sheet-sure : leb (192 + 64 * min (length records) 1000000) (length range) ≡ true → n ≤ 192 + 64 * min (length records) 1000000 → (new : List ℕ)
+  pub sheet-sure : (k : ℕ) → leb (256 + 24 * min k 256 + 64 * min (length records) 1000000) (length range) ≡ true → n ≤ 256 + 24 * min k 256 + 64 * min (length records) 1000000 → (new : List ℕ)
       → new ≡ sets range 0 (sheet text records) → (n ≡ lentLength text records range) × (new ≡ lentSheet text records range .list)
-  sheet-sure h b new p = let l = leb-true (192 + 64 * min (length records) 1000000) (length range) h in sheet-fits (omega (arith, l, b)) new n p long
+  sheet-sure k h b new p = let l = leb-true (256 + 24 * min k 256 + 64 * min (length records) 1000000) (length range) h in sheet-fits (omega (arith, l, b)) new n p long
 
 -- ---- room
 
--- the bound of few records, and of more than there are ticks
-pub room-few : (records room : ℕ) → records < 1000000 → leb (192 + 64 * records) room ≡ leb (192 + 64 * min records 1000000) room
-room-few records room h = let m : records ≡ min records 1000000 = omega (arith, h) in ap (λ (k : ℕ). leb (192 + 64 * k) room) m
-
-pub room-many : (records room : ℕ) → 1000000 ≤ records → leb 64000192 room ≡ leb (192 + 64 * min records 1000000) room
-room-many records room h = let m : 64000192 ≡ 192 + 64 * min records 1000000 = omega (arith, h) in ap (λ (k : ℕ). leb k room) m
+pub room-is : (letters records room l r : ℕ) → l ≡ min letters 256 → r ≡ min records 1000000 → leb (256 + 24 * l + 64 * r) room ≡ leb (256 + 24 * min letters 256 + 64 * min records 1000000) room
+room-is letters records room l r e f = ap₂ (λ (j k : ℕ). leb (256 + 24 * j + 64 * k) room) e f

@@ -1,4 +1,4 @@
--- The lines that a watch prints, record by record (docs/REFERENCE.md, P3 to P7); over any watch and any bytes. Assumes nothing.
+-- The lines that a watch prints, record by record (docs/REFERENCE.md, P3 to P7 and P10); over any watch and any bytes. Assumes nothing.
 use mathlib.Core.Bool.{Bool, true, false, cond}
 use mathlib.Core.List.{List, [], _∷_, _++_}
 use Prim.Native.Nat.{ℕ, zero, suc}
@@ -11,10 +11,10 @@ use Rattle.refusals.specs.Numbers.{torn}
 use Rattle.meaning.specs.Answers as meaning
 use Rattle.meaning.specs.Opening.{Opened, countsOf}
 use Rattle.meaning.specs.Calls as calls
-use Rattle.meaning.specs.Sheet.{decimal, hexadecimal, line, refusalLine, firstLine, cleanLine}
+use Rattle.meaning.specs.Sheet.{decimal, hexadecimal, line, refusalLine, firstLine, cleanLine, foot}
 use Rattle.rules.specs.declared.Watch.{Watch}
 use Rattle.rules.specs.Watches.{watchOf}
-use Rattle.monitor.specs.Calls.{replyOf, watchAfter}
+use Rattle.monitor.specs.Calls.{replyOf, watchAfter, totalsOf}
 
 -- P4: "`T W ok`, its number and word"
 abbrev pub okLine : (t w : ℕ) → List ℕ
@@ -27,6 +27,10 @@ badLine t w m = line (decimal t ∷ hexadecimal 16 w ∷ bytes "bad" ∷ decimal
 -- the number and the word of a tick, in front of its verdict
 abbrev pub tickFront : (t w : ℕ) → List ℕ
 tickFront t w = decimal t ++ (32 ∷ (hexadecimal 16 w ++ (32 ∷ [])))
+
+-- P10: the lines at the foot
+abbrev pub footOf : Watch → List ℕ
+footOf v = foot (totalsOf v)
 
 -- A run: the watch, and the word before the next record.
 pub record Run : Type 0 where
@@ -50,10 +54,10 @@ ran p s rest b = record { printed = p; after = s; left = rest; ended = b }
 abbrev pub printing : List ℕ → Ran → Ran
 printing p x = ran (p ++ x .printed) (x .after) (x .left) (x .ended)
 
--- the take of word w of a record of n bytes: an ok line goes on behind the record, any other ends; P4: "and ends the sheet", P5: the same
+-- the take of word w of a record of n bytes: an ok line goes on behind the record, any other ends the sheet, that of a bad tick with the foot behind it (P4, P5 and P10)
 abbrev pub onReply : calls.Reply → Run → (rest : List ℕ) → (w n : ℕ) → (Run → List ℕ → Ran) → Ran
 onReply calls.ok s rest w n next = printing (okLine (s .watch .ticks) w) (next (run (watchAfter (s .watch) w) w) (drop n rest))
-onReply (calls.bad m) s rest w n next = ran (badLine (s .watch .ticks) w m) (run (watchAfter (s .watch) w) (s .before)) rest true
+onReply (calls.bad m) s rest w n next = ran (badLine (s .watch .ticks) w m ++ footOf (s .watch)) (run (watchAfter (s .watch) w) (s .before)) rest true
 onReply (calls.refused k p) s rest w n next = ran (refusalLine k (s .watch .ticks ∷ [])) (run (watchAfter (s .watch) w) (s .before)) rest true
 
 -- what was read: at the end of the bytes, or where they cut a record short, more may come; an idle byte ends the sheet (P5)
@@ -71,13 +75,16 @@ runOn (suc k) s rest = onRead (readRecord rest (s .before)) s rest (runOn k)
 abbrev pub runOver : Run → List ℕ → Ran
 runOver s rest = runOn (length rest) s rest
 
--- the last line where no more bytes come and so many are left: P7: "`clean N`", or a record is cut short (R5)
-abbrev pub lastLine : (t left : ℕ) → List ℕ
-lastLine t zero = cleanLine t
-lastLine t (suc n) = refusalLine torn (t ∷ [])
+-- the last lines where no more bytes come and so many are left: P7: "`clean N`" with the foot behind it, or a record is cut short (R5)
+abbrev pub lastLines : (t : ℕ) → (foot : List ℕ) → (left : ℕ) → List ℕ
+lastLines t foot zero = cleanLine t ++ foot
+lastLines t foot (suc n) = refusalLine torn (t ∷ [])
+
+abbrev pub closing : Watch → (left : ℕ) → List ℕ
+closing v n = lastLines (v .ticks) (footOf v) n
 
 abbrev pub closed : Ran → List ℕ
-closed x = x .printed ++ cond (x .ended) [] (lastLine (x .after .watch .ticks) (length (x .left)))
+closed x = x .printed ++ cond (x .ended) [] (closing (x .after .watch) (length (x .left)))
 
 abbrev pub isRefused : {A : Type 0} → meaning.Answer A → Bool
 isRefused (meaning.value o) = false

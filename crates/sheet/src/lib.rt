@@ -1,9 +1,11 @@
 // The printed sheet: from a rule text and the records of a trace to the sheet's bytes in a lent range, for C too; and the same
 // in pieces, for traces longer than any buffer. What is printed is said by `meaning`'s specs/Sheet.antt.
+mod foot;
 mod lines;
 mod page;
 mod ticking;
 
+use foot::put_foot;
 use lines::put_clean;
 use lines::put_counts;
 use lines::put_refusal;
@@ -14,6 +16,7 @@ use rules::Watch;
 use rules::open;
 pub use ticking::Ran;
 use ticking::run_from;
+use words::least;
 ghost use mathlib.Core.Path.{_≡_};
 ghost use Prim.Native.Nat.{_+_, _*_, _<_, _≤_, min};
 ghost use lib.Dec.{leb};
@@ -23,18 +26,30 @@ ghost use mathlib.Core.Bool.{cond};
 ghost use mathlib.Core.List.{[]};
 ghost use Rattle.trace.specs.Record.{written};
 ghost use Rattle.trace.specs.Whole.{lend, numberOrZero};
-ghost use Rattle.meaning.specs.Sheet.{firstLine, lentSheet, lentLength};
-ghost use Rattle.sheet.specs.Lines.{run, runOver, lastLine, closed, isRefused};
+ghost use Rattle.meaning.specs.Sheet.{firstLine, foot, lentSheet, lentLength};
+ghost use Rattle.sheet.specs.Lines.{run, runOver, footOf, lastLines, closing, closed, isRefused};
 ghost use Rattle.meaning.specs.Opening.{countsOf, openText};
 ghost use Rattle.rules.specs.Watches.{watchOf, shownOutcome};
+ghost use Rattle.monitor.specs.Calls.{totalsIn};
 
-// The last line where no more bytes come.
-fn put_last(ticks: u64, left: usize, out: &mut [u8], at: usize) -> usize
-    requires { ⌜ at < 4294967296 ⌝ }
-    ensures { λ r. ⌜ (now (out .exit) ≡ sets (now (out .entry)) at (lastLine ticks left)) × (r ≡ at + length (lastLine ticks left)) × (r ≤ at + 64) ⌝ }
+// The last lines where no more bytes come.
+fn put_last<'a>(
+    ticks: u64,
+    firsts: &'a [u16; 32],
+    monitors: usize,
+    letters: usize,
+    totals: &'a [u32; 256],
+    left: usize,
+    out: &mut [u8],
+    at: usize,
+) -> usize
+    requires { ⌜ at < 4000000000 ⌝ }
+    ensures { λ r. ⌜ (now (out .exit) ≡ sets (now (out .entry)) at (lastLines ticks (foot (totalsIn (now (firsts .entry)) (now (totals .entry)) monitors letters)) left))
+        × (r ≡ at + length (lastLines ticks (foot (totalsIn (now (firsts .entry)) (now (totals .entry)) monitors letters)) left)) ⌝ }
 {
     if left == 0 {
-        return put_clean(ticks, out, at);
+        let clean = put_clean(ticks, out, at);
+        return put_foot(firsts, monitors, letters, totals, out, clean);
     }
     put_refusal(13, ticks, out, at)
 }
@@ -99,11 +114,34 @@ pub fn run(watch: Watch, before: u64, records: &[u8], out: &mut [u8]) -> Ran
     run_from(watch, before, records, out, 0)
 }
 
-// Prints the last line after so many ticks, where no more bytes come and so many are left.
-pub fn finish(ticks: u64, left: usize, out: &mut [u8]) -> usize
-    ensures { λ r. ⌜ (now (out .exit) ≡ sets (now (out .entry)) 0 (lastLine ticks left)) × (r ≡ length (lastLine ticks left)) ⌝ }
+// Prints the last lines of a watch, where no more bytes come and so many are left.
+pub fn finish(watch: Watch, left: usize, out: &mut [u8]) -> usize
+    ensures { λ r. ⌜ (now (out .exit) ≡ sets (now (out .entry)) 0 (closing watch left)) × (r ≡ length (closing watch left)) ⌝ }
 {
-    put_last(ticks, left, out, 0)
+    put_last(
+        watch.ticks,
+        &watch.firsts,
+        watch.monitors,
+        watch.letters,
+        &watch.totals,
+        left,
+        out,
+        0,
+    )
+}
+
+// Prints the totals of a watch, as they stand at the foot of its sheet.
+pub fn totals(watch: Watch, out: &mut [u8]) -> usize
+    ensures { λ r. ⌜ (now (out .exit) ≡ sets (now (out .entry)) 0 (footOf watch)) × (r ≡ length (footOf watch)) ⌝ }
+{
+    put_foot(
+        &watch.firsts,
+        watch.monitors,
+        watch.letters,
+        &watch.totals,
+        out,
+        0,
+    )
 }
 
 // Prints what stands behind the first line, from place `at` on and as far as the range reaches, and tells the sheet's length.
@@ -121,18 +159,24 @@ fn print_rest(start: Start, records: &[u8], out: &mut [u8], at: usize) -> usize
     if ran.ended {
         return ran.at;
     }
-    let last = ran.watch;
-    put_last(last.ticks, records.len() - ran.used, out, ran.at)
+    put_last(
+        ran.watch.ticks,
+        &ran.watch.firsts,
+        ran.watch.monitors,
+        ran.watch.letters,
+        &ran.watch.totals,
+        records.len() - ran.used,
+        out,
+        ran.at,
+    )
 }
 
-// Whether a range surely has room for the sheet of so many bytes of records, however they are: then one pass does.
-fn surely_fits(records: usize, room: usize) -> bool
-    ensures { λ r. ⌜ r ≡ leb (192 + 64 * min records 1000000) room ⌝ }
+// Whether a range surely has room for the sheet of so many letters, at most 256, and so many bytes of records, however they are:
+// then one pass does.
+fn surely_fits(letters: usize, records: usize, room: usize) -> bool
+    ensures { λ r. ⌜ r ≡ leb (256 + 24 * min letters 256 + 64 * min records 1000000) room ⌝ }
 {
-    if records < 1000000 {
-        return 192 + 64 * records <= room;
-    }
-    64000192 <= room
+    256 + 24 * least(letters, 256) + 64 * least(records, 1000000) <= room
 }
 
 // Prints the sheet of a rule text and a trace into a lent range, and returns its length. A range that is shorter keeps its bytes, and 0 is
@@ -143,7 +187,7 @@ pub extern "C" fn linewatch_sheet(text: &[u8], records: &[u8], sheet: &mut [u8])
 {
     let start = open(text);
     let outcome = start.outcome;
-    if surely_fits(records.len(), sheet.len()) {
+    if surely_fits(start.watch.letters, records.len(), sheet.len()) {
         let at = put_first(outcome, sheet);
         return print_rest(start, records, sheet, at);
     }

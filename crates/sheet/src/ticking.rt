@@ -1,10 +1,12 @@
 // A watch at work on records: for each record the tick and its line (specs/Lines.antt).
+use super::foot::put_foot;
 use super::lines::count_on;
 use super::lines::lay;
 use super::lines::put_bad;
 use super::lines::put_ok;
 use super::lines::put_refusal;
 use super::page::pairs;
+use monitor::count_met;
 use monitor::is_bad;
 use monitor::refused_by;
 use monitor::step;
@@ -72,6 +74,7 @@ fn leave(
     marks: [u8; 288],
     values: [u64; 16],
     past: u64,
+    totals: [u32; 256],
     ticks: u64,
     stopped: bool,
     before: u64,
@@ -79,12 +82,13 @@ fn leave(
     at: usize,
     ended: bool,
 ) -> Ran
-    ensures { λ r. ⌜ r ≡ record { watch = withState watch (record { inner = record { marks = marks; values = values; last = past }; oks = ticks; stopped = stopped }); before = before; used = used; at = at; ended = ended } ⌝ }
+    ensures { λ r. ⌜ r ≡ record { watch = withState watch (record { inner = record { marks = marks; values = values; last = past; totals = totals }; oks = ticks; stopped = stopped }); before = before; used = used; at = at; ended = ended } ⌝ }
 {
     let mut now = watch;
     now.marks = marks;
     now.values = values;
     now.before = past;
+    now.totals = totals;
     now.ticks = ticks;
     now.stopped = stopped;
     Ran {
@@ -96,7 +100,7 @@ fn leave(
     }
 }
 
-// Runs the watch over the records, and prints a line for each from place `at` on. What moves is kept apart from the watch, which is
+// Runs the watch over the records, and prints a line for each from place `at` on, and the foot behind a bad one. What moves is kept apart from the watch, which is
 // large, and the line of a good tick from one to the next. `past` is the watch's word before, `last` that of the records.
 pub(crate) fn run_from(watch: Watch, before: u64, records: &[u8], out: &mut [u8], at: usize) -> Ran
     requires { ⌜ at ≤ 128 ⌝ }
@@ -105,7 +109,7 @@ pub(crate) fn run_from(watch: Watch, before: u64, records: &[u8], out: &mut [u8]
         × (r .ended ≡ runOver (run watch before) (now (records .entry)) .ended)
         × (now (out .exit) ≡ sets (now (out .entry)) at (runOver (run watch before) (now (records .entry)) .printed))
         × (r .at ≡ at + length (runOver (run watch before) (now (records .entry)) .printed))
-        × (r .used ≤ length (now (records .entry))) × (r .at ≤ 64000200) ⌝ }
+        × (r .used ≤ length (now (records .entry))) × (r .at ≤ 64200200) ⌝ }
 {
     let tables = tables_of(watch);
     let digits = pairs();
@@ -114,6 +118,7 @@ pub(crate) fn run_from(watch: Watch, before: u64, records: &[u8], out: &mut [u8]
     let mut marks = watch.marks;
     let mut values = watch.values;
     let mut past = watch.before;
+    let mut totals = watch.totals;
     let mut ticks = watch.ticks;
     let mut last = before;
     let mut used: usize = 0;
@@ -126,6 +131,7 @@ pub(crate) fn run_from(watch: Watch, before: u64, records: &[u8], out: &mut [u8]
                 marks,
                 values,
                 past,
+                totals,
                 ticks,
                 watch.stopped,
                 last,
@@ -141,6 +147,7 @@ pub(crate) fn run_from(watch: Watch, before: u64, records: &[u8], out: &mut [u8]
                 marks,
                 values,
                 past,
+                totals,
                 ticks,
                 watch.stopped,
                 last,
@@ -158,6 +165,7 @@ pub(crate) fn run_from(watch: Watch, before: u64, records: &[u8], out: &mut [u8]
                 marks,
                 values,
                 past,
+                totals,
                 ticks,
                 watch.stopped,
                 last,
@@ -179,7 +187,7 @@ pub(crate) fn run_from(watch: Watch, before: u64, records: &[u8], out: &mut [u8]
             word,
         );
         if is_bad(monitor, watch.monitors) {
-            let end = put_bad(
+            let line_end = put_bad(
                 ticks,
                 word,
                 monitor as u64,
@@ -189,11 +197,20 @@ pub(crate) fn run_from(watch: Watch, before: u64, records: &[u8], out: &mut [u8]
                 out,
                 place,
             );
+            let end = put_foot(
+                &watch.firsts,
+                watch.monitors,
+                watch.letters,
+                &totals,
+                out,
+                line_end,
+            );
             return leave(
                 watch,
                 marks,
                 values,
                 past,
+                totals,
                 ticks,
                 true,
                 last,
@@ -204,6 +221,7 @@ pub(crate) fn run_from(watch: Watch, before: u64, records: &[u8], out: &mut [u8]
         }
         place = put_ok(ticks, word, &digits, &mut line, from, out, place);
         from = count_on(ticks, from, &mut line);
+        count_met(watch.letters, &marks, &mut totals);
         ticks = ticks + 1;
         past = word;
         last = word;

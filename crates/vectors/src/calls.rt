@@ -1,4 +1,4 @@
-// Looks and takes on the watch of a text, a printed line for each.
+// Looks and takes on the watch of a text, a printed line for each, and the totals.
 use crate::cases::wide;
 use crate::page::put;
 use crate::page::put_number;
@@ -8,6 +8,7 @@ use monitor::look;
 use monitor::take;
 use rules::Outcome;
 use rules::Watch;
+use sheet::totals;
 
 // A call is the letter L or T, and a word of eight bytes, lowest first.
 const CALL: usize = 9;
@@ -140,7 +141,20 @@ fn call(watch: Watch, letter: u8, word: u64) -> Taken {
     take(watch, word)
 }
 
-// A line for each call, from place `from` of the page on: the place behind them.
+// The totals of the watch, from a place of the page on: the place behind them, or that place if they reach beyond it.
+fn put_totals(watch: Watch, page: &mut [u8], at: usize) -> usize {
+    if page.len() < at {
+        return at;
+    }
+    let room = page.len() - at;
+    let count = totals(watch, &mut page[at..]);
+    if room < count {
+        return at;
+    }
+    at + count
+}
+
+// A line for each call, from place `from` of the page on, and the totals after them: the place behind.
 fn put_calls(opened: Watch, calls: &[u8], page: &mut [u8], from: usize) -> usize {
     let mut watch = opened;
     let mut to = from;
@@ -159,10 +173,10 @@ fn put_calls(opened: Watch, calls: &[u8], page: &mut [u8], from: usize) -> usize
         watch = called.watch;
         at = next;
     }
-    to
+    put_totals(watch, page, to)
 }
 
-// The first line for the text and, if it is accepted, one for each call: how many bytes of the page they take.
+// The first line for the text and, if it is accepted, one for each call and the totals: how many bytes of the page they take.
 pub fn print(text: &[u8], calls: &[u8], page: &mut [u8]) -> usize {
     let start = rules::open(text);
     let outcome = start.outcome;

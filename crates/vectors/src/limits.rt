@@ -65,7 +65,12 @@ fn wires_64(page: &mut [u8]) -> usize
 {
     let n = put_each(page, 0, b"input w#; ", 0, 64);
     let n = put(page, n, b"p -> w63 & !w0 || w0 & !w63; monitor p;");
-    differing(b"wires-64", page, n, b"rows 3 letters 2\nclean 0\n")
+    differing(
+        b"wires-64",
+        page,
+        n,
+        b"rows 3 letters 2\nclean 0\nmet 0 0 0\nmet 0 1 0\ntotal 0\n",
+    )
 }
 
 // The name w64: 10 statements of 10 bytes, 54 of 11 and `input ` stand before it.
@@ -107,7 +112,12 @@ fn doublings_unused(page: &mut [u8]) -> usize
 {
     let n = put_doublings(page);
     let n = put(page, n, b"monitor p1, p0;");
-    differing(b"doublings-unused", page, n, b"rows 4 letters 3\nclean 0\n")
+    differing(
+        b"doublings-unused",
+        page,
+        n,
+        b"rows 4 letters 3\nclean 0\nmet 0 0 0\nmet 0 1 0\nmet 1 0 0\ntotal 0\n",
+    )
 }
 
 // 120 productions, each the one before in 32 parentheses, which have no rows: one letter.
@@ -123,7 +133,12 @@ fn chain(page: &mut [u8]) -> usize
         121,
     );
     let n = put(page, n, b"monitor p120;");
-    differing(b"chain", page, n, b"rows 1 letters 1\nclean 0\n")
+    differing(
+        b"chain",
+        page,
+        n,
+        b"rows 1 letters 1\nclean 0\nmet 0 0 0\ntotal 0\n",
+    )
 }
 
 // 256 letters, 255 stars, 255 commas.
@@ -133,7 +148,14 @@ fn starred(page: &mut [u8]) -> usize
     let n = put(page, 0, b"input D[7:0]; p -> ");
     let n = put_each(page, n, b"D==#*,", 1, 256);
     let n = put(page, n, b"D==0; monitor p;");
-    differing(b"starred", page, n, b"rows 766 letters 256\nclean 0\n")
+    let mut right = [0u8; 4096];
+    let m = put(&mut right, 0, b"rows 766 letters 256\nclean 0\n");
+    let m = put_each(&mut right, m, b"met 0 # 0\n", 0, 256);
+    let m = put(&mut right, m, b"total 0\n");
+    if 4096 < m {
+        return 1;
+    }
+    differing(b"starred", page, n, &right[0..m])
 }
 
 // 255 starred letters and nothing else: a hollow monitor.

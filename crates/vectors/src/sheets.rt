@@ -1,8 +1,8 @@
 // The sheet that is printed for a text and a trace, against the right one.
 use sheet::linewatch_sheet;
 
-// The longest sheet of the cases has 7,138 bytes. The longest trace has 303, whose sheet could have no more than
-// 192 + 64 * 303: so the whole page surely has room, and one pass is made; a range that just fits is measured first.
+// The longest sheet of the cases has 10,110 bytes. The longest trace has 303, whose sheet could have no more than
+// 256 + 24 * 256 + 64 * 303: so the whole page surely has room, and one pass is made; a range that just fits is measured first.
 const PAGE: usize = 32768;
 
 // What a page holds before: a byte that no sheet has.

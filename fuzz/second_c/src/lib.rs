@@ -22,6 +22,15 @@ pub unsafe extern "C" fn second_sheet(text: *const u8, text_length: usize, recor
     right.len()
 }
 
+/// How many letters a text has; 0 if it is refused.
+///
+/// # Safety
+/// The range is as its pointer and length say.
+#[no_mangle]
+pub unsafe extern "C" fn second_letters(text: *const u8, text_length: usize) -> usize {
+    second::open(bytes(text, text_length)).map_or(0, |program| program.letters() as usize)
+}
+
 /// Writes the record that is right for a word behind another, and returns its length.
 ///
 /// # Safety

@@ -1,8 +1,10 @@
-//! Random looks and takes through a program that answers cases, and through `second`: `calls N SEED PROGRAM [ARGUMENT..]`. Both must print the same. A case that
-//! differs is made small and saved under `target/fuzz/`, in a folder named by its seed. Where answers end early, the case without one differs, and the run ends.
+//! Random looks and takes through a program that answers cases, and through `second`: `calls N SEED PROGRAM [ARGUMENT..]`. Both must print the same, with the
+//! model's foot (totals.rs). A case that fails is made small and saved under `target/fuzz/`, in a folder named by its seed. Where answers end early, the case
+//! without one differs, and the run ends.
 
 use fuzz::calls::{self, Busy, Met, Touches};
 use fuzz::random::Random;
+use fuzz::totals::{self, Foot};
 use fuzz::{save, shrink, Case};
 use second::stage::{self, Entry, Said};
 use std::ffi::OsString;
@@ -13,7 +15,7 @@ use std::process::ExitCode;
 /// Cases that are put to the program at once.
 const LOT: usize = 4096;
 
-/// So many cases that differ are made small and saved; the others are only named.
+/// So many cases that fail are made small and saved; the others are only named.
 const SAVED: u64 = 10;
 
 /// A program and its arguments.
@@ -24,11 +26,20 @@ impl Asked<'_> {
         stage::ask(self.0, self.1, entries)
     }
 
-    /// Whether the program, asked a case alone, answers otherwise than `second`, or not at all.
-    fn fails(&self, case: &Case) -> bool {
+    /// What is wrong if the program is asked a case alone.
+    fn fault(&self, case: &Case) -> Option<&'static str> {
         let entry = calls::entry(case);
-        self.ask(std::slice::from_ref(&entry)).is_ok_and(|said| said.answers != [entry.answer])
+        let said = self.ask(std::slice::from_ref(&entry)).ok()?;
+        fault(said.answers.first(), &entry.answer, totals::of_calls(case).as_ref())
     }
+}
+
+/// What is wrong with an answer, or with the lack of one: it is not that of `second`, or that one has not the model's foot.
+fn fault(answer: Option<&Vec<u8>>, right: &Vec<u8>, foot: Option<&Foot>) -> Option<&'static str> {
+    if answer != Some(right) {
+        return Some("differs");
+    }
+    totals::fault(right, foot)
 }
 
 #[derive(Default)]
@@ -38,6 +49,7 @@ struct Tally {
     met: Met,
     busy: Busy,
     touches: Touches,
+    feet: totals::Tally,
 }
 
 impl Tally {
@@ -51,8 +63,10 @@ impl Tally {
             self.met.count(&entry.answer);
             self.busy.count(&cases[i]);
             self.touches.count(&cases[i]);
-            if said.answers.get(i) != Some(&entry.answer) {
-                self.differ(asked, seeds[i], &cases[i])?;
+            let foot = totals::of_calls(&cases[i]);
+            self.feet.count(foot.as_ref());
+            if let Some(what) = fault(said.answers.get(i), &entry.answer, foot.as_ref()) {
+                self.report(what, asked, seeds[i], &cases[i])?;
             }
         }
         self.cases += compared as u64;
@@ -60,16 +74,16 @@ impl Tally {
         Ok(said.fault.or(missing))
     }
 
-    fn differ(&mut self, asked: &Asked, seed: u64, case: &Case) -> io::Result<()> {
+    fn report(&mut self, what: &str, asked: &Asked, seed: u64, case: &Case) -> io::Result<()> {
         self.differences += 1;
         if self.differences > SAVED {
-            println!("differs: seed {seed}");
+            println!("{what}: seed {seed}");
             return Ok(());
         }
         let folder = format!("target/fuzz/calls-{seed}");
-        let small = shrink::shrink(case.clone(), calls::LENGTH, |case| asked.fails(case));
+        let small = shrink::shrink(case.clone(), calls::LENGTH, |case| asked.fault(case) == Some(what));
         save::save_calls(Path::new(&folder), &small)?;
-        println!("differs: seed {seed}, saved in {folder}");
+        println!("{what}: seed {seed}, saved in {folder}");
         Ok(())
     }
 
@@ -82,6 +96,7 @@ impl Tally {
         println!("{looks:8} looks bad for a busy thread alone, and {takes} takes; behind {went_on} of the looks a take was ok");
         let Touches { cases, shared_ok, shared_bad, not_last } = self.touches;
         println!("{cases:8} accepted: in {shared_ok} two letters lead to one row at an ok take, in {shared_bad} at a bad one; {not_last} bad before the last monitor");
+        println!("{}", self.feet);
         println!("{} cases, {} differences", self.cases, self.differences);
     }
 }

@@ -15,15 +15,34 @@ pub fn sheet(text: &str, words: &[u64]) -> String {
     String::from_utf8(sheet).expect("a sheet is plain text")
 }
 
-/// The last line of that sheet.
+/// The last line of that sheet above its foot. None but a refusal lacks one.
 pub fn last_line(text: &str, words: &[u64]) -> String {
     let sheet = sheet(text, words);
-    assert!(sheet.ends_with('\n'));
-    sheet
-        .lines()
-        .last()
-        .expect("a sheet has a line")
-        .to_string()
+    let (above, foot) = cut_foot(&sheet);
+    let last = above.last().expect("a sheet has a line");
+    assert_eq!(foot.is_empty(), last.starts_with("refused "), "{sheet}");
+    last.to_string()
+}
+
+/// The lines of a sheet, or of an answer to calls, above its foot and in it.
+pub fn cut_foot(printed: &str) -> (Vec<&str>, Vec<&str>) {
+    assert!(printed.ends_with('\n'));
+    let mut above: Vec<&str> = printed.lines().collect();
+    let begins = |line: &&str| line.starts_with("met ") || line.starts_with("total ");
+    let end = above.iter().position(begins).unwrap_or(above.len());
+    let foot = above.split_off(end);
+    (above, foot)
+}
+
+/// The foot with these totals, monitor by monitor, and this sum.
+pub fn foot(totals: &[&[u32]], sum: u32) -> String {
+    let mut foot = String::new();
+    for (monitor, letters) in totals.iter().enumerate() {
+        for (letter, count) in letters.iter().enumerate() {
+            foot += &format!("met {monitor} {letter} {count}\n");
+        }
+    }
+    foot + &format!("total {sum}\n")
 }
 
 /// The records of words.

@@ -27,9 +27,12 @@ impl Case {
         ticks.map(|line| u64::from_str_radix(line.split(' ').nth(1).unwrap(), 16).unwrap()).collect()
     }
 
-    /// The fields of the sheet's last line.
+    /// The fields of the line with which the ticks end: the last one above the foot.
     pub fn last_line(&self) -> Vec<String> {
-        self.sheet().lines().last().unwrap().split(' ').map(String::from).collect()
+        let sheet = self.sheet();
+        let is_foot = |line: &&str| line.starts_with("met ") || line.starts_with("total ");
+        let line = sheet.lines().rev().find(|line| !is_foot(line)).unwrap();
+        line.split(' ').map(String::from).collect()
     }
 }
 

@@ -8,7 +8,7 @@ use Rattle.linewatch.proofs.watch_trace.Statement.{statement}
 use Rattle.linewatch.proofs.watch_trace.Tie as tie
 
 abbrev Inv-loop : tie.InvT-loop
-Inv-loop fd now₀ before₀ buffer₀ out₀ kept₀ pieces₀ now before buffer out kept pieces = (4096 ≡ length buffer) × (131072 ≡ length out)
+Inv-loop fd now₀ before₀ buffer₀ out₀ kept₀ pieces₀ now before buffer out kept pieces = (4096 ≡ length buffer) × (139264 ≡ length out)
 
 abbrev μ-loop : tie.MeasureT-loop
 μ-loop fd now₀ before₀ buffer₀ out₀ kept₀ pieces₀ now before buffer out kept pieces = 4096 - pieces

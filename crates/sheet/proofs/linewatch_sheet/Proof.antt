@@ -29,7 +29,7 @@ returns c =
     let o = t .before .before .«open» .ensures in
     let a = f .put-first .ensures in
     let b = p .print-rest .ensures in
-    sheet-sure _ _ _ _ (sheet-long _ _ _ _ (o .0) (o .1) _ (a .1) _ (b .1)) (sym (t .before .surely-fits .ensures) ∙ t .if1 .taken)
+    sheet-sure _ _ _ _ (sheet-long _ _ _ _ (o .0) (o .1) _ (a .1) _ (b .1)) _ (sym (t .before .surely-fits .ensures) ∙ t .if1 .taken)
     (sheet-bound _ (t .before .before .before .before .before .before .args .records .now) _ _ (o .0) (o .1) _ (a .1) _ (b .1) (a .2)) _ (sheet-whole _ _ _ _ (o .0) (o .1) _ (a .1) _ (b .1) _ _ _ (a .0) (b .0))
 
 sub-put-first : tie.Need-sub-put-first

@@ -40,7 +40,7 @@ same-length-2 c = search needs
 returns-3 : tie.Need-returns-3
 returns-3 c =
     let p = c .before .before in
-    let l = p .before .before .before .before in
+    let l = p .before .before .before .before .before in
     let s = l .before .before .before in
     let e = s .before .before .before in
     let r = s .run-from .ensures in

@@ -1,6 +1,7 @@
 -- `monitor::positions::monitor_goes` meets its contract.
 -- Assumes nothing.
 use borrow.Author.Needs.{needs}
+use native.Mathlib.Omega.{arith}
 use borrow.Author.Tests.{not-true, not-false}
 use Rattle.monitor.proofs.TickSteps.{monitor-stops, monitor-on}
 use Rattle.monitor.specs.Letters.{given}
@@ -30,7 +31,7 @@ letters-go-requires : tie.Need-letters-go-requires
 letters-go-requires c κs = search needs
 
 returns-2 : tie.Need-returns-2
-returns-2 c = monitor-on (given (c .before .before .before .before .before .before .before .before .args .tables .now) (c .before .before .before .before .before .before .before .before .args .values .now) (c .before .before .before .before .before .before .before .before .args .words .now)) (layout (c .before .before .before .before .before .before .before .before .args .places .now) (c .before .before .before .before .before .before .before .before .args .own .now) (c .before .before .before .before .before .before .before .before .args .firsts .now) (c .before .before .before .before .before .before .before .before .args .monitors) (c .before .before .before .before .before .before .before .before .args .letters)) (c .before .before .before .before .before .before .before .before .args .marks .now) (c .before .before .before .before .before .before .before .before .args .monitor) (c .before .before .before .before .before .before .before .before .args .memory .now) _ _ _ _ _ (c .before .before .before .before .before .before .start-goes .ensures) (not-false _ (c .before .before .before .before .before .if1 .left)) (c .before .before .before .wide .ensures) (c .before .before .letters-end .ensures .0) (c .letters-go .ensures)
+returns-2 c = monitor-on (given (c .before .before .before .before .before .before .before .before .args .tables .now) (c .before .before .before .before .before .before .before .before .args .values .now) (c .before .before .before .before .before .before .before .before .args .words .now)) (layout (c .before .before .before .before .before .before .before .before .args .places .now) (c .before .before .before .before .before .before .before .before .args .own .now) (c .before .before .before .before .before .before .before .before .args .firsts .now) (c .before .before .before .before .before .before .before .before .args .monitors) (c .before .before .before .before .before .before .before .before .args .letters)) (c .before .before .before .before .before .before .before .before .args .marks .now) (c .before .before .before .before .before .before .before .before .args .monitor) (c .before .before .before .before .before .before .before .before .args .memory .now) _ _ _ _ _ (c .before .before .before .before .before .before .start-goes .ensures) (not-false _ (c .before .before .before .before .before .if1 .left)) (c .before .before .before .wide .ensures) (omega arith) (omega arith) (c .before .before .letters-end .ensures .0) (c .letters-go .ensures)
 
 pub monitor-goes-spec : {M : Type 1} → statement M
 monitor-goes-spec =

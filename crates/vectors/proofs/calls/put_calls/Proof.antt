@@ -61,6 +61,9 @@ loop-less c = search needs
 loop-again : tie.Need-loop-again Inv-loop μ-loop
 loop-again c = search needs
 
+put-totals-requires : tie.Need-put-totals-requires Inv-loop μ-loop
+put-totals-requires c κs = search needs
+
 same-length-2 : tie.Need-same-length-2 Inv-loop μ-loop
 same-length-2 c = search needs
 
@@ -89,5 +92,6 @@ put-calls-spec =
     put-touched-requires
     loop-less
     loop-again
+    put-totals-requires
     same-length-2
     returns-2)
