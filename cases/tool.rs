@@ -9,13 +9,16 @@
 //! A folder holds `rules.txt`, whose inputs say which wire has which bits, and
 //! `counts.txt`, the first line of every sheet. A table's first line names its
 //! columns: `tick`, then every wire. Each further line is a tick: its number,
-//! then a value for each wire, decimal or hexadecimal behind `0x`. `#` starts a
-//! comment. One comment states the verdict: `# expect: clean` or
-//! `# expect: bad MONITOR at tick TICK`.
+//! then a value for each wire, decimal or hexadecimal behind `0x`. Ticks in a row
+//! with the same values may be one line: the first of them, `-` and the last. `#`
+//! starts a comment. One comment states the verdict: `# expect: clean`,
+//! `# expect: bad NUMBER at tick TICK`, the number being that of a monitor or, from
+//! 32 on, of a limit and 32, or `# expect: refused` if the text is refused.
 //!
 //! No rule is run here: a sheet is made from the verdict its table states. What a
 //! table does not say are the totals at its foot: `met M L C` for each letter, and
 //! `total T`. Of them only their number, their form and their sum are checked here.
+//! The sheet of a refused text is its first line alone.
 
 use std::fmt::Write as _;
 use std::io::Read as _;
@@ -72,8 +75,14 @@ fn check(folder: &Path, name: &str) -> Result<(), String> {
     }
     let stored = read_text(&sheet)?;
     let foot = stored.strip_prefix(&case.sheet).ok_or(not_said(&sheet))?;
-    if !is_foot(foot, case.letters) {
-        return Err(format!("{}: no totals at its foot", sheet.display()));
+    match case.letters {
+        Some(letters) if !is_foot(foot, letters) => {
+            return Err(format!("{}: no totals at its foot", sheet.display()));
+        }
+        None if !foot.is_empty() => {
+            return Err(format!("{}: more than a refusal", sheet.display()));
+        }
+        _ => {}
     }
     match first_difference(&stored, &String::from_utf8_lossy(&printed)) {
         None => Ok(()),
@@ -121,8 +130,8 @@ fn count_of(line: &str) -> Option<u64> {
 /// What a table stands for.
 struct Case {
     records: Vec<u8>,
-    /// How many letters its rules have.
-    letters: usize,
+    /// How many letters its rules have, unless they are refused.
+    letters: Option<usize>,
     /// The sheet without its foot.
     sheet: String,
 }
@@ -132,14 +141,26 @@ impl Case {
         let rules = folder.join("rules.txt");
         let wires = wires(&read_text(&rules)?).map_err(|e| format!("{}: {e}", rules.display()))?;
         let counts = read_text(&folder.join("counts.txt"))?;
-        let letters = counts.split_whitespace().last().unwrap_or("");
         let table = Table::parse(&read_text(path)?, &wires)
             .map_err(|e| format!("{}: {e}", path.display()))?;
         Ok(Case {
             records: records(&table.words),
-            letters: number(letters)? as usize,
+            letters: letters(&counts, &table.verdict)?,
             sheet: table.sheet(counts.trim_end()),
         })
+    }
+}
+
+/// The letters that the first line of a sheet counts; none if it is a refusal,
+/// which the verdict must be too.
+fn letters(counts: &str, verdict: &Verdict) -> Result<Option<usize>, String> {
+    let fields: Vec<&str> = counts.split_whitespace().collect();
+    match (&fields[..], verdict) {
+        (["refused", _, ..], Verdict::Refused) => Ok(None),
+        (["rows", _, "letters", letters], Verdict::Clean | Verdict::Bad { .. }) => {
+            Ok(Some(number(letters)? as usize))
+        }
+        _ => Err(format!("`{}` is not what is expected", counts.trim_end())),
     }
 }
 
@@ -187,7 +208,13 @@ fn wires(rules: &str) -> Result<Vec<Wire>, String> {
 
 enum Verdict {
     Clean,
-    Bad { monitor: usize, tick: usize },
+    /// The number is that of a monitor or, from 32 on, of a limit.
+    Bad {
+        number: usize,
+        tick: usize,
+    },
+    /// The text is refused.
+    Refused,
 }
 
 struct Table {
@@ -211,7 +238,8 @@ impl Table {
                 }
             }
             if !values.trim().is_empty() {
-                words.push(parse_word(values, words.len(), &columns).map_err(at_line)?);
+                let (word, last) = parse_line(values, words.len(), &columns).map_err(at_line)?;
+                words.resize(last + 1, word);
             }
         }
         let verdict = verdict.ok_or("no `# expect:` line")?;
@@ -227,9 +255,12 @@ impl Table {
     /// The sheet without its foot.
     fn sheet(&self, counts: &str) -> String {
         let mut sheet = format!("{counts}\n");
+        if matches!(self.verdict, Verdict::Refused) {
+            return sheet;
+        }
         for (tick, word) in self.words.iter().enumerate() {
             let answer = match self.verdict {
-                Verdict::Bad { monitor, tick: bad } if bad == tick => format!("bad {monitor}"),
+                Verdict::Bad { number, tick: bad } if bad == tick => format!("bad {number}"),
                 _ => "ok".to_string(),
             };
             writeln!(sheet, "{tick} {word:016x} {answer}").expect("a string takes every write");
@@ -265,7 +296,8 @@ fn columns<'a>(header: &str, wires: &'a [Wire]) -> Result<Vec<&'a Wire>, String>
     }
 }
 
-fn parse_word(line: &str, tick: usize, columns: &[&Wire]) -> Result<u64, String> {
+/// The word of a line that begins with a tick, and the last tick that has it.
+fn parse_line(line: &str, tick: usize, columns: &[&Wire]) -> Result<(u64, usize), String> {
     let values: Vec<&str> = line.split_whitespace().collect();
     if values.len() != columns.len() + 1 {
         return Err(format!(
@@ -274,7 +306,9 @@ fn parse_word(line: &str, tick: usize, columns: &[&Wire]) -> Result<u64, String>
             columns.len() + 1
         ));
     }
-    if number(values[0])? != tick as u64 {
+    let (first, last) = values[0].split_once('-').unwrap_or((values[0], values[0]));
+    let (first, last) = (number(first)? as usize, number(last)? as usize);
+    if first != tick || last < first {
         return Err(format!("tick {} where {tick} is due", values[0]));
     }
     let mut word = 0;
@@ -285,7 +319,7 @@ fn parse_word(line: &str, tick: usize, columns: &[&Wire]) -> Result<u64, String>
         }
         word |= bits << wire.lowest;
     }
-    Ok(word)
+    Ok((word, last))
 }
 
 fn number(text: &str) -> Result<u64, String> {
@@ -300,8 +334,9 @@ fn parse_verdict(text: &str) -> Result<Verdict, String> {
     let words: Vec<&str> = text.split_whitespace().collect();
     match words[..] {
         ["clean"] => Ok(Verdict::Clean),
-        ["bad", monitor, "at", "tick", tick] => Ok(Verdict::Bad {
-            monitor: number(monitor)? as usize,
+        ["refused"] => Ok(Verdict::Refused),
+        ["bad", named, "at", "tick", tick] => Ok(Verdict::Bad {
+            number: number(named)? as usize,
             tick: number(tick)? as usize,
         }),
         _ => Err(format!("`{}` is no verdict", text.trim())),

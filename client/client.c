@@ -3,7 +3,8 @@
  *     client sheet RULES TRACE         prints the sheet of two files
  *     client cases FILE..              runs files of cases (name, text, trace, sheet) and compares each sheet
  *     client same RULES TRACE SHEET    compares the sheet of two files with a third
- *     client limits                    a short range, no range, records, 256 letters, and traces of 1,000,000 ticks and one more
+ *     client limits                    a short range, no range, records, 256 letters, eight limits of the longest window, which a trace goes round
+ *                                      and passes, and traces of 1,000,000 ticks and one more
  *
  * It exits with 0 if all is well. */
 #include <stdio.h>
@@ -114,11 +115,50 @@ static int run_letters(void)
     return bad;
 }
 
+/* The records of so many words, 1 each but that the last of every 1,024 is 0. */
+static struct bytes logs(size_t ticks)
+{
+    struct bytes records = {malloc(2 * ticks), 0};
+    uint64_t before = 0;
+    if (!records.at)
+        exit(2);
+    for (size_t tick = 0; tick < ticks; tick++) {
+        uint64_t word = tick % 1024 != 1023;
+        records.length += linewatch_write_record(before, word, records.at + records.length, 2 * ticks - records.length);
+        before = word;
+    }
+    return records;
+}
+
+/* The most limits, with the longest window: it is gone round as often as there are ticks for; and passed in another trace. A bad tick names 32
+ * for limit 0, 33 for limit 1 and so on; here it is 39, for the last. */
+static int run_windows(void)
+{
+    static const char rules[] = "input a; log -> a; p -> log || !a; q -> !a; r -> q || log;"
+                                "limit q to 1 in 1024; limit q to 9 in 10; limit q to 7 in 8; limit q to 1 in 2; limit q to 63 in 64;"
+                                "limit q to 64 in 65; limit q to 1022 in 1023; limit log to 1023 in 1024; monitor p, r;";
+    struct bytes text = {(uint8_t *)(uintptr_t)rules, sizeof rules - 1};
+    struct bytes records = logs(1000000);
+    struct bytes sheet = sheet_of(text, records);
+    int bad = check("windows gone round", ends(sheet, "\nclean 1000000\nmet 0 0 999024\nmet 0 1 976\nmet 1 0 976\nmet 1 1 999024\ntotal 2000000\n"));
+    free(sheet.at);
+    free(records.at);
+    /* a whole round, and then another whose last word does not change */
+    records = logs(2048);
+    records.at[records.length - 2] = 0;
+    records.length--;
+    sheet = sheet_of(text, records);
+    bad += check("a window passed", ends(sheet, "\n2047 0000000000000001 bad 39\nmet 0 0 2046\nmet 0 1 1\nmet 1 0 1\nmet 1 1 2046\ntotal 4094\n"));
+    free(sheet.at);
+    free(records.at);
+    return bad;
+}
+
 static int run_limits(void)
 {
     static const char rules[] = "input a; p -> a || !a; monitor p;";
     struct bytes text = {(uint8_t *)(uintptr_t)rules, sizeof rules - 1};
-    int bad = run_letters();
+    int bad = run_letters() + run_windows();
 
     bad += check("no range", linewatch_sheet(text.at, text.length, NULL, 0, NULL, 0) == 0);
     struct bytes nothing = {NULL, 0};

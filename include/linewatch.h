@@ -17,7 +17,8 @@ extern "C" {
  *
  * Returns the sheet's length in bytes; the range's bytes behind it are untouched. Returns 0 and leaves the whole range untouched if the range
  * is too short for the sheet (a sheet is never empty). A refused text, record or tick is a line of the sheet, `refused` with its number and
- * place. Lines close with a line feed; no zero byte is added. */
+ * place. The line of a bad tick ends in `bad` and a number M: below 32 it is the lowest monitor that does not fit, and from 32 on all
+ * monitors fit and the tick is beyond limit M - 32 of the text, the lowest such. Lines close with a line feed; no zero byte is added. */
 size_t linewatch_sheet(const uint8_t *text, size_t text_length, const uint8_t *records, size_t records_length, uint8_t *sheet,
                        size_t sheet_length);
 

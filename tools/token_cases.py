@@ -9,7 +9,7 @@ import random
 import re
 
 SIGNS = [";", ",", "@", "*", "&", "!", "(", ")", "[", "]", "{", "}", ":", "=", "==", "||", "->", "<-"]
-WORDS = ["input", "internal", "define", "monitor", "past"]
+WORDS = ["input", "internal", "define", "monitor", "past", "limit", "to", "in"]
 NAME = re.compile(rb"[A-Za-z_][A-Za-z0-9_]*")
 NUMBER = re.compile(rb"[0-9]+")
 WHITE = re.compile(rb"[ \t\n\r]*")
@@ -55,7 +55,7 @@ b"abcdefghijklmnop", b"abcdefghijklmnopq", b"a abcdefghijklmnopq", b"abcdefghijk
 b"18446744073709551615", b"18446744073709551616", b"18446744073709551625", b"99999999999999999999", b"184467440737095516150",
 b"00000000000000000000000000000000018446744073709551615", b"00000000000000000000000000000000018446744073709551616", b"0000000000000000000000000000000000000000000000000000000000000000007",
 b"18446744073709551615a", b"18446744073709551616a", b"9223372036854775808",
-b"input", b"internal", b"define", b"monitor", b"inputs", b"inpu", b"Input", b"internals", b"defin", b"monitors", b"input1", b"_input", b"input internal define monitor", b"past", b"pasts", b"Past", b"a == past ( a )",
+b"input", b"internal", b"define", b"monitor", b"inputs", b"inpu", b"Input", b"internals", b"defin", b"monitors", b"input1", b"_input", b"input internal define monitor", b"past", b"pasts", b"Past", b"a == past ( a )", b"limit", b"limits", b"Limit", b"to", b"into", b"To", b"in", b"inn", b"In", b"limit x to 2 in 8;", b"2in8",
 b";", b",", b"@", b"*", b"&", b"!", b"(", b")", b"[", b"]", b"{", b"}", b":", b"=", b"==", b"||", b"->", b"<-",
 b"|", b"-", b"<", b">", b"| |", b"- >", b"< -", b"===", b"====", b"= =", b"=<-", b"<->", b"<--", b"->>", b"|||", b"||||", b"a|", b"a-", b"a<", b"=-", b"=|", b"-->", b"!=", b"<=", b"==>", b"a->b", b"a<-b", b"a=b", b"a==b", b"a||b", b"=a", b"==a",
 b".", b"#", b"\"", b"'", b"/", b"\\", b"^", b"`", b"~", b"?", b"%", b"+", b"\x00", b"\x0b", b"\x0c", b"\x1f", b"\x7f", b"\x80", b"\xa0", b"\xff", b"a\x00b", b"\xc3\xa9", b"a.b", b"  .", b"12.5",

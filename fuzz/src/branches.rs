@@ -1,7 +1,7 @@
 //! The branches of monitors one by one, as the rules have them (docs/REFERENCE.md, F4 to F21): a slow reading that the tests hold the model to. Nothing of a
-//! branch is kept from tick to tick: at each tick all of them are listed anew, over all words.
+//! branch is kept from tick to tick: at each tick all of them are listed anew, over all words. Limits (F29 to F31) are counted anew too, tick by tick.
 
-use crate::opened::{Letter, Opened, Part};
+use crate::opened::{Letter, Limit, Opened, Part};
 use std::collections::BTreeSet;
 
 /// A branch on its way.
@@ -21,15 +21,23 @@ struct Reading<'o> {
     words: Vec<u64>,
     /// The stores before each tick.
     stores: Vec<Vec<u64>>,
+    /// The letters met at each tick.
+    met: Vec<BTreeSet<usize>>,
+}
+
+/// What the reading says of a word: for each monitor, the letters that each branch has which fits; and the lowest limit that it is beyond if all fit.
+struct Read {
+    monitors: Vec<Vec<BTreeSet<usize>>>,
+    beyond: Option<usize>,
 }
 
 impl<'o> Reading<'o> {
     fn new(opened: &'o Opened) -> Self {
-        Reading { opened, words: Vec::new(), stores: vec![opened.stores.clone()] }
+        Reading { opened, words: Vec::new(), stores: vec![opened.stores.clone()], met: Vec::new() }
     }
 
-    /// Takes a word. For each monitor, the letters that each branch has which fits; the word counts as taken if none is without a branch.
-    fn take(&mut self, word: u64) -> Vec<Vec<BTreeSet<usize>>> {
+    /// Takes a word. It counts as taken if no monitor is without a branch and it is beyond no limit.
+    fn take(&mut self, word: u64) -> Read {
         self.words.push(word);
         let monitors = self.opened.monitors.iter().map(|&monitor| {
             let mut branches = Vec::new();
@@ -37,16 +45,26 @@ impl<'o> Reading<'o> {
             branches
         });
         let monitors: Vec<_> = monitors.collect();
-        if monitors.iter().any(Vec::is_empty) {
-            self.words.pop();
+        let fits = !monitors.iter().any(Vec::is_empty);
+        self.met.push(monitors.iter().flatten().flatten().copied().collect());
+        let beyond = self.opened.limits.iter().position(|limit| fits && self.is_beyond(limit));
+        if fits && beyond.is_none() {
+            self.stores.push(self.written(word, &self.met[self.met.len() - 1]));
         } else {
-            self.stores.push(self.written(word, monitors.iter().flatten().flatten().copied().collect()));
+            self.words.pop();
+            self.met.pop();
         }
-        monitors
+        Read { monitors, beyond }
+    }
+
+    /// Whether more of the last ticks than a limit allows meet a letter that counts.
+    fn is_beyond(&self, limit: &Limit) -> bool {
+        let last = self.met.iter().rev().take(limit.window);
+        last.filter(|met| met.iter().any(|&letter| limit.counts[letter])).count() > limit.most
     }
 
     /// The stores behind the last of them, with these letters met.
-    fn written(&self, word: u64, met: BTreeSet<usize>) -> Vec<u64> {
+    fn written(&self, word: u64, met: &BTreeSet<usize>) -> Vec<u64> {
         let mut stores = self.stores[self.words.len() - 1].clone();
         for (store, value) in met.iter().flat_map(|&letter| &self.opened.letters[letter].writes) {
             stores[*store] = value.of(word);
@@ -119,7 +137,7 @@ mod tests {
     use crate::model::{Model, Said};
     use crate::opened::{accepted, open};
     use crate::random::Random;
-    use crate::{follow, grow, several, threads};
+    use crate::{follow, grow, limited, several, threads};
 
     /// So many words of a case are read, up to one that so many branches fit.
     const WORDS: usize = 7;
@@ -132,6 +150,8 @@ mod tests {
         model: Model<'o>,
         /// Whether two branches had a letter at some tick.
         several: bool,
+        /// Whether a word was beyond a limit.
+        beyond: bool,
     }
 
     impl Both<'_> {
@@ -139,10 +159,15 @@ mod tests {
         fn take(&mut self, word: u64) -> Option<usize> {
             let shown = String::from_utf8_lossy(self.text);
             let (ways, fitting) = (self.model.ways(word), self.model.fitting(word));
-            let (monitors, said) = (self.reading.take(word), self.model.take(word));
+            let (Read { monitors, beyond }, said) = (self.reading.take(word), self.model.take(word));
             assert_eq!(monitors.iter().filter(|branches| !branches.is_empty()).count(), fitting, "{shown}");
             if let Some(monitor) = monitors.iter().position(Vec::is_empty) {
                 assert!(said == Said::Bad(monitor) || said == Said::Busy(monitor), "{shown}");
+                return None;
+            }
+            if let Some(limit) = beyond {
+                assert_eq!(said, Said::Beyond(limit), "{shown}");
+                self.beyond = true;
                 return None;
             }
             let met: BTreeSet<&usize> = monitors.iter().flatten().flatten().collect();
@@ -160,6 +185,8 @@ mod tests {
         bad: u64,
         /// Texts with a tick at which two branches have a letter.
         several: u64,
+        /// Texts with a word beyond a limit.
+        beyond: u64,
     }
 
     impl Compared {
@@ -167,7 +194,7 @@ mod tests {
             let Some(opened) = accepted(text) else {
                 return;
             };
-            let mut both = Both { text, reading: Reading::new(&opened), model: Model::new(&opened), several: false };
+            let mut both = Both { text, reading: Reading::new(&opened), model: Model::new(&opened), several: false, beyond: false };
             for &word in words.iter().take(WORDS).take_while(|word| word.checked_shr(opened.wires).unwrap_or(0) == 0) {
                 let branches = both.take(word);
                 self.ok += u64::from(branches.is_some());
@@ -177,6 +204,7 @@ mod tests {
                 }
             }
             self.several += u64::from(both.several);
+            self.beyond += u64::from(both.beyond);
         }
     }
 
@@ -188,19 +216,19 @@ mod tests {
             let random = &mut Random::new(seed);
             let case = grow::case(random);
             compared.compare(&case.text, &words(&case.trace));
-            for text in [several::text(random), threads::text(random)] {
+            for text in [several::text(random), threads::text(random), limited::text(random)] {
                 let words = follow::words(random, text.as_bytes());
                 compared.compare(text.as_bytes(), &words);
             }
         }
-        assert!(compared.ok > 20_000 && compared.bad > 500 && compared.several > 1000, "{compared:?}");
+        assert!(compared.ok > 20_000 && compared.bad > 500 && compared.several > 1000 && compared.beyond > 100, "{compared:?}");
     }
 
     /// The letters that each branch has at the last of the words.
     fn branches(body: &str, words: &[u64]) -> Vec<Vec<usize>> {
         let opened = open(&format!("input a; input b; input c; input d; p -> {body}; monitor p;"));
         let mut reading = Reading::new(&opened);
-        let listed = words.iter().map(|&word| reading.take(word).remove(0));
+        let listed = words.iter().map(|&word| reading.take(word).monitors.remove(0));
         listed.last().expect("there is a word").into_iter().map(|letters| letters.into_iter().collect()).collect()
     }
 

@@ -1,9 +1,11 @@
 //! Looks and takes for a grown case: its words are taken, and among them stand looks, at the word that is then taken, at that word but for a bit, at the word
-//! before, at any word and at a stray one, and stray takes. In a text with threads some looks are at words that are bad for a busy thread alone. Behind the
-//! last word, bad or not, stand a few calls of any words. Number 17 is not met here: it takes a million takes, and is left to other tests.
+//! before, at any word and at a stray one, and stray takes. In a text with threads some looks are at words that are bad for a busy thread alone, and in one with
+//! limits at words beyond a limit. Behind the last word, bad or not, stand a few calls of any words. Number 17 is not met here: it takes a million takes, and is
+//! left to other tests.
 
 use crate::compare::words;
 use crate::model::{Model, Said};
+use crate::opened::Opened;
 use crate::random::Random;
 use crate::rows::Touched;
 use crate::{grow, opened, threads, Case};
@@ -13,18 +15,24 @@ use std::collections::{BTreeMap, BTreeSet};
 
 /// Bytes of a call: `L` for a look or `T` for a take, and its word, lowest byte first.
 pub const LENGTH: usize = 9;
-const LOOK: u8 = b'L';
+pub const LOOK: u8 = b'L';
 const TAKE: u8 = b'T';
 
 /// So many words are tried before none is said to be found.
 const TRIES: usize = 6;
 
-/// Calls that are being made, and a model that has taken the words so far, if the text has threads.
+/// With more words than so many there are looks at some of them only, so that the calls have room.
+const MANY: usize = 500;
+
+/// Calls that are being made, and a model that has taken the words so far, if the text has threads or letters that count for limits; these by the wires that
+/// they look at and want.
 struct Row<'r, 'o> {
     random: &'r mut Random,
     wires: usize,
     bytes: Vec<u8>,
     model: Option<Model<'o>>,
+    threaded: bool,
+    counting: Vec<(u64, u64)>,
 }
 
 impl Row<'_, '_> {
@@ -75,6 +83,17 @@ impl Row<'_, '_> {
         }
     }
 
+    /// A look at a word beyond a limit, if one is found quickly: it is this word but for the wires of a letter that counts.
+    fn put_look_beyond(&mut self, word: u64, model: &Model) {
+        for _ in 0..TRIES.min(self.counting.len()) {
+            let (look, want) = *self.random.pick(&self.counting);
+            let near = word & !look | want;
+            if matches!(model.look(near), Said::Beyond(_)) {
+                return self.put(LOOK, near);
+            }
+        }
+    }
+
     /// Has the model take a word that is not stray.
     fn move_model(&mut self, word: u64) {
         let above = word.checked_shr(self.wires as u32).unwrap_or(0);
@@ -83,22 +102,36 @@ impl Row<'_, '_> {
         }
     }
 
-    /// Some looks, for some words a stray take, and the take.
-    fn put_tick(&mut self, word: u64, before: u64) {
+    /// Some looks, for some words a stray take.
+    fn put_before_take(&mut self, word: u64, before: u64) {
         for _ in 0..*self.random.pick(&[0, 0, 1, 1, 2, 4]) {
             let looked_at = self.looked_at(word, before);
             self.put(LOOK, looked_at);
         }
         if let Some(model) = self.model.take() {
-            self.put_busy_look(word, &model);
+            if self.threaded {
+                self.put_busy_look(word, &model);
+            }
+            self.put_look_beyond(word, &model);
             self.model = Some(model);
         }
         if self.random.once_in(8) {
             let stray = self.stray(word);
             self.put(TAKE, stray);
         }
-        self.put(TAKE, word);
-        self.move_model(word);
+    }
+
+    /// All takes, with what stands before each.
+    fn put_takes(&mut self, words: &[u64]) {
+        let mut before = 0;
+        for &word in words {
+            if words.len() <= MANY || self.random.once_in(8) {
+                self.put_before_take(word, before);
+            }
+            self.put(TAKE, word);
+            self.move_model(word);
+            before = word;
+        }
     }
 
     /// Looks and takes of any words, some of them stray.
@@ -115,15 +148,13 @@ impl Row<'_, '_> {
 /// A grown case with calls in the place of its trace.
 pub fn case(random: &mut Random) -> Case {
     let Case { text, trace } = grow::case(random);
-    let program = second::open(&text);
-    let wires = program.as_ref().map_or(64, |program| program.wires() as usize);
-    let opened = program.ok().and_then(|_| threads::opened(&text));
-    let mut row = Row { random, wires, bytes: Vec::new(), model: opened.as_ref().map(Model::new) };
-    let mut before = 0;
-    for word in words(&trace) {
-        row.put_tick(word, before);
-        before = word;
-    }
+    let opened = opened::accepted(&text);
+    let wires = opened.as_ref().map_or(64, |opened| opened.wires as usize);
+    let threaded = opened.as_ref().is_some_and(Opened::has_threads);
+    let counting = opened.as_ref().map_or_else(Vec::new, Opened::counting);
+    let model = opened.as_ref().filter(|_| threaded || !counting.is_empty()).map(Model::new);
+    let mut row = Row { random, wires, bytes: Vec::new(), model, threaded, counting };
+    row.put_takes(&words(&trace));
     row.put_more();
     let calls = row.bytes;
     Case { text, trace: calls }
@@ -232,7 +263,7 @@ pub fn takes(bytes: &[u8]) -> impl Iterator<Item = u64> + '_ {
 }
 
 /// The calls that some bytes are: the letter and the word of each.
-fn calls_of(bytes: &[u8]) -> impl Iterator<Item = (u8, u64)> + '_ {
+pub fn calls_of(bytes: &[u8]) -> impl Iterator<Item = (u8, u64)> + '_ {
     let word = |bytes: &[u8]| u64::from_le_bytes(bytes.try_into().expect("a word has 8 bytes"));
     bytes.chunks(LENGTH).map(move |call| (call[0], word(&call[1..])))
 }
@@ -275,6 +306,7 @@ fn kind(line: &str) -> Option<String> {
 #[cfg(test)]
 mod tests {
     use super::*;
+    use crate::{totals, windows};
 
     /// A string of a case has room for so many bytes in the Rattle program, and an answer for twice as many.
     const ROOM: usize = 65_536;
@@ -361,6 +393,16 @@ mod tests {
         assert!(busy.looks > 1000 && busy.went_on > 300 && busy.takes > 400, "{busy:?}");
     }
 
+    /// Most looks beyond a limit stand before a take that is ok.
+    #[test]
+    fn looks_are_often_beyond_a_limit() {
+        let mut tally = windows::Tally::default();
+        for case in (0..4000).map(grown) {
+            tally.count(&case, totals::of_calls(&case).map(|foot| foot.limits).as_ref());
+        }
+        assert!(tally.looks > 5000 && 2 * tally.went_on > tally.looks && tally.went_on < tally.looks, "{tally:?}");
+    }
+
     fn touches(body: &str, monitors: &str, words: &[u64]) -> [u64; 4] {
         let takes: Vec<(u8, u64)> = words.iter().map(|&word| (TAKE, word)).collect();
         let mut touches = Touches::default();
@@ -411,7 +453,7 @@ mod tests {
     #[test]
     fn words_are_within_the_wires_or_stray() {
         for (seed, wires) in (0..2000).flat_map(|seed| [0, 1, 7, 63, 64].map(|wires| (seed, wires))) {
-            let mut row = Row { random: &mut Random::new(seed), wires, bytes: Vec::new(), model: None };
+            let mut row = Row { random: &mut Random::new(seed), wires, bytes: Vec::new(), model: None, threaded: false, counting: Vec::new() };
             let above = |word: u64| word.checked_shr(wires as u32).unwrap_or(0);
             let any = row.any();
             assert_eq!(above(any), 0);

@@ -1,10 +1,11 @@
 //! Cases grown from the grammar: declarations, productions and monitors at random, most of them such that the shape rules are kept, half of them with
-//! `past`; or a text around a limit, around `past`, around threads or around totals; then, for some, a token put in another's place or bytes damaged; and a
-//! trace of words that follow the rules for a while and then leave them (follow.rs), or whose last record is torn, has an idle byte or a bit above the wires.
+//! `past`, some with limits of their own; or a text at one of the limits of 01, around `past`, around threads, around totals or around limits of its own; then,
+//! for some, a token put in another's place or bytes damaged; and a trace of words that follow the rules for a while and then leave them (follow.rs), or whose
+//! last record is torn, has an idle byte or a bit above the wires.
 
 use crate::compare::record;
 use crate::random::Random;
-use crate::{follow, limits, past, several, threads, totals, Case};
+use crate::{follow, limited, limits, past, several, threads, totals, Case};
 
 struct Input {
     name: String,
@@ -17,6 +18,8 @@ struct Grown {
     stores: Vec<(String, u32)>,
     defines: Vec<String>,
     productions: Vec<String>,
+    /// Those of the productions that are a single letter.
+    singles: Vec<String>,
     /// One literal in so many is `wire == past(wire)`; with 0 none is.
     past: usize,
     /// Defines of nothing but such literals.
@@ -170,6 +173,7 @@ fn text(random: &mut Random) -> String {
         stores: Vec::new(),
         defines: Vec::new(),
         productions: Vec::new(),
+        singles: Vec::new(),
         past,
         holding: Vec::new(),
     };
@@ -199,11 +203,18 @@ fn text(random: &mut Random) -> String {
         g.text += &format!("define held = {body};\n");
         g.holding.push(String::from("held"));
     }
+    let limiting = random.once_in(4);
     for i in 0..1 + random.below(if limit { 130 } else { 4 }) {
-        let depth = random.below(4);
+        let depth = if limiting && random.once_in(3) { 0 } else { random.below(4) };
         let body = g.expression(random, depth);
         g.text += &format!("p{i} -> {body};\n");
+        if depth == 0 && (g.singles.contains(&body) || !g.productions.contains(&body)) {
+            g.singles.push(format!("p{i}"));
+        }
         g.productions.push(format!("p{i}"));
+        if limiting && random.once_in(2) {
+            g.text += &limited::any_limit(random, &g.productions, &g.singles);
+        }
     }
     if random.once_in(40) {
         for i in 0..1 + random.below(9) {
@@ -222,7 +233,8 @@ fn text(random: &mut Random) -> String {
 
 const TOKENS: &[&str] = &[
     ";", ",", "@", "*", "&", "!", "(", ")", "[", "]", "{", "}", ":", "=", "==", "||", "->", "<-", "input", "internal", "define", "monitor", "past", "past(w0)", "w0", "w1", "s0", "d0", "p0",
-    "x", "0", "1", "7", "18446744073709551615", "18446744073709551616", "a_name_of_sixteen", "|", "#",
+    "limit", "to", "in", "limit p0 to 1 in 2;", "1023", "1024", "1025", "x", "0", "1", "7", "18446744073709551615", "18446744073709551616",
+    "a_name_of_sixteen", "|", "#",
 ];
 
 /// Another token in the place of one, a token more, or one less.
@@ -298,11 +310,13 @@ fn trace(random: &mut Random, words: &[u64]) -> Vec<u8> {
 }
 
 pub fn case(random: &mut Random) -> Case {
-    let mut text = match random.below(22) {
+    let mut text = match random.below(30) {
         0 | 1 => limits::text(random),
         2 | 3 => past::formed(random).text,
-        4..=7 => threads::text(random),
-        8 | 9 => several::text(random),
+        4..=9 => threads::text(random),
+        10 | 11 => several::text(random),
+        12..=15 => limited::text(random),
+        16 => limited::formed(random).text,
         _ => text(random),
     }
     .into_bytes();
@@ -337,13 +351,15 @@ pub fn kind(case: &Case) -> String {
 #[cfg(test)]
 mod tests {
     use super::*;
+    use crate::windows;
     use std::collections::BTreeSet;
 
     /// All that a sheet can end in above its foot, but for number 17, which takes a million ticks; 16 and 18 stand in no sheet.
     #[test]
     fn every_kind_of_sheet_is_grown() {
         let grown: BTreeSet<String> = (0..20_000).map(|seed| kind(&case(&mut Random::new(seed)))).collect();
-        let all: BTreeSet<String> = (1..=15).map(|number| format!("refused {number:>2}")).chain([String::from("clean"), String::from("bad")]).collect();
+        let refused = (1..=15).chain([21, 22]).map(|number| format!("refused {number:>2}"));
+        let all: BTreeSet<String> = refused.chain([String::from("clean"), String::from("bad")]).collect();
         assert_eq!(grown, all);
     }
 
@@ -356,6 +372,18 @@ mod tests {
         let moved = bad.iter().filter(|case| past::moved(case)).count();
         let counts = (held.len(), bad.len(), moved);
         assert!(counts.0 > 2000 && counts.1 > 700 && counts.2 > 500, "{counts:?}");
+    }
+
+    /// Limits are passed, by each number, and just not; at ticks that are bad for a monitor too; and windows of all lengths are gone round.
+    #[test]
+    fn limits_are_met_in_many_ways() {
+        let mut tally = windows::Tally::default();
+        for case in (0..10_000).map(|seed| case(&mut Random::new(seed))) {
+            tally.count(&case, totals::of_sheet(&case).map(|foot| foot.limits).as_ref());
+        }
+        let often = [tally.texts / 4, tally.ninth, tally.just_beyond, tally.just_within, tally.rounds / 4, tally.two_letters];
+        let seldom = [tally.several, tally.with_monitor, tally.long_rounds, tally.long];
+        assert!(often.iter().all(|&n| n > 50) && seldom.iter().all(|&n| n > 20) && tally.beyond.iter().all(|&n| n > 2), "{tally:?}");
     }
 
     #[test]

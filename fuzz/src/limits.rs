@@ -27,6 +27,9 @@ pub const LIMITS: &[Limit] = &[
     Limit { what: "parentheses", most: 32, beyond: 7, text: parentheses },
     Limit { what: "monitors", most: 32, beyond: 7, text: monitors },
     Limit { what: "letters", most: 256, beyond: 8, text: letters },
+    Limit { what: "limits", most: 8, beyond: 7, text: limits },
+    Limit { what: "ticks that a limit allows", most: 1_023, beyond: 21, text: ticks_allowed },
+    Limit { what: "ticks of a window", most: 1_024, beyond: 21, text: ticks_of_a_window },
 ];
 
 /// A text around one of the limits.
@@ -55,7 +58,7 @@ fn bytes(random: &mut Random, count: u128) -> String {
 }
 
 fn name(random: &mut Random, count: u128) -> String {
-    let mut name = one_of(random, &["n", "N", "_", "input", "monitor", "define", "internal", "past"]);
+    let mut name = one_of(random, &["n", "N", "_", "input", "monitor", "define", "internal", "past", "limit", "to", "in"]);
     while name.len() < count as usize {
         name += &one_of(random, &["a", "Z", "0", "9", "_"]);
     }
@@ -184,6 +187,23 @@ fn letters(random: &mut Random, count: u128) -> String {
     } else {
         text + &format!("p -> {};\nmonitor p;", parts.join(", "))
     }
+}
+
+/// So many limits, of productions that stand for each other.
+fn limits(random: &mut Random, count: u128) -> String {
+    let limits: String = (0..count).map(|_| format!("limit {} to 1 in {};\n", random.pick(&["x", "y"]), 2 + random.below(5))).collect();
+    format!("input a;\nx -> a;\ny -> x;\np -> y || !a;\n{limits}monitor p;")
+}
+
+/// A limit that allows so many ticks, of one more.
+fn ticks_allowed(random: &mut Random, count: u128) -> String {
+    let zeros = zeros(random);
+    format!("input a; x -> a; limit x to {zeros}{count} in {}; p -> x || !a; monitor p;", count + 1)
+}
+
+fn ticks_of_a_window(random: &mut Random, count: u128) -> String {
+    let zeros = zeros(random);
+    format!("input a; x -> a; limit x to {} in {zeros}{count}; p -> x || !a; monitor p;", random.pick(&[0, 1, 500, 1022]))
 }
 
 #[cfg(test)]

@@ -1,10 +1,10 @@
 //! Random cases through the C entries and through `second`: `fuzz N SEED`. Both sides must print the same (compare.rs says how they are held to it), and the
-//! foot of it must be the model's (totals.rs). A case that fails is made small and saved under `target/fuzz/`, in a folder named by its seed.
+//! foot of it and the line above must be the model's (totals.rs). A case that fails is made small and saved under `target/fuzz/`, in a folder named by its seed.
 
 use fuzz::compare::{differs, records_differ};
 use fuzz::random::Random;
 use fuzz::totals::{self, Foot};
-use fuzz::{grow, past, save, shrink, threads, Case};
+use fuzz::{grow, past, save, shrink, threads, windows, Case};
 use std::collections::BTreeMap;
 use std::path::Path;
 
@@ -59,6 +59,7 @@ fn main() {
     let mut held = Held::default();
     let mut threads = threads::Tally::default();
     let mut feet = totals::Tally::default();
+    let mut limits = windows::Tally::default();
     let mut found = 0;
     for i in 0..count {
         let seed = first.wrapping_add(i);
@@ -67,6 +68,7 @@ fn main() {
         held.count(&case, &kind);
         threads.count(&case, &kind);
         feet.count(foot.as_ref());
+        limits.count(&case, foot.as_ref().map(|foot| &foot.limits));
         *kinds.entry(kind).or_insert(0u64) += 1;
         if let Some(what) = fault(&case, foot.as_ref()) {
             found += 1;
@@ -78,7 +80,7 @@ fn main() {
     }
     let Held { texts, clean, bad, moved } = held;
     println!("{texts:8} accepted with past: {clean} clean, {bad} bad, {moved} of these for a field that moved");
-    println!("{threads}\n{feet}");
+    println!("{threads}\n{feet}\n{limits}");
     println!("{count} cases, {found} differences");
     if found > 0 {
         std::process::exit(1);

@@ -1,6 +1,7 @@
 //! A model of the watch, for texts that `second` accepts: it goes over the parts of each monitor, from letter to letter, with what has to come behind each
 //! letter that was met. It has nothing of `second`, and says more of a bad word: whether every letter that is required is met, so that the word is bad
-//! only because two starts of one thread both require one. It also tells the rows that a tick touches (rows.rs) and the letters that it meets (totals.rs).
+//! only because two starts of one thread both require one. It also tells the rows that a tick touches (rows.rs) and the letters that it meets (totals.rs), and
+//! asks the limits of the text where all monitors fit (windows.rs).
 //!
 //! An accepted text has no forks, so that a word leads on from a letter to one letter at most. There may be several ways to that one, as stars are left and
 //! sides of a `||` are taken that have no tick: then several branches (docs/REFERENCE.md, F15) have the same letters. The model takes the first way that it
@@ -8,6 +9,7 @@
 
 use crate::opened::{Letter, Opened, Part};
 use crate::rows::{Rows, Touched};
+use crate::windows::{self, Counted};
 use std::collections::BTreeSet;
 use std::rc::Rc;
 
@@ -55,6 +57,19 @@ pub enum Said {
     Bad(usize),
     /// Bad, though all letters are met that are required: a thread is busy.
     Busy(usize),
+    /// All monitors fit, and this is the lowest limit that the tick is beyond.
+    Beyond(usize),
+}
+
+impl Said {
+    /// The number that an answer names, if it is bad.
+    pub fn number(self) -> Option<usize> {
+        match self {
+            Said::Ok => None,
+            Said::Bad(monitor) | Said::Busy(monitor) => Some(monitor),
+            Said::Beyond(limit) => Some(windows::FIRST + limit),
+        }
+    }
 }
 
 /// A watch at work. It knows no refusals: they are left to who hands the words over.
@@ -68,12 +83,19 @@ pub struct Model<'o> {
     /// For each monitor what has to come, for itself and for each start.
     rests: Vec<Vec<Rc<Rest>>>,
     handed_over: u64,
+    counted: Counted<'o>,
 }
 
 impl<'o> Model<'o> {
     pub fn new(opened: &'o Opened) -> Self {
         let rests = opened.monitors.iter().map(|&monitor| vec![Rc::new(Rest::Again(monitor))]).collect();
-        Model { opened, rows: Rows::new(opened), stores: opened.stores.clone(), before: 0, letters: Vec::new(), rests, handed_over: 0 }
+        let (rows, counted) = (Rows::new(opened), Counted::new(&opened.limits));
+        Model { opened, rows, stores: opened.stores.clone(), before: 0, letters: Vec::new(), rests, handed_over: 0, counted }
+    }
+
+    /// The ticks that counted for the limits.
+    pub fn counted(&self) -> &Counted<'o> {
+        &self.counted
     }
 
     /// How many starts so far had their first letter right behind the last letter of another start of the same thread.
@@ -105,15 +127,25 @@ impl<'o> Model<'o> {
         self.cross(word).iter().filter(|met| fits(met)).count()
     }
 
+    /// The letters that a word meets in the monitors that fit it.
+    pub fn met(&self, word: u64) -> Vec<usize> {
+        letters(&self.cross(word))
+    }
+
+    /// Whether a word is beyond a limit, all monitors fitting it, and would not be if the window of that limit had one tick fewer.
+    pub fn is_just_beyond(&self, word: u64) -> bool {
+        matches!(self.look(word), Said::Beyond(number) if self.counted.is_just_beyond(number, &self.met(word)))
+    }
+
     /// What a take of the word would come to.
     pub fn look(&self, word: u64) -> Said {
-        said(&self.cross(word))
+        self.said(&self.cross(word))
     }
 
     /// Takes a word, and moves on if it is ok.
     pub fn take(&mut self, word: u64) -> Said {
         let crossed = self.cross(word);
-        let said = said(&crossed);
+        let said = self.said(&crossed);
         if said == Said::Ok {
             self.move_on(word, &crossed.into_iter().flatten().collect::<Vec<_>>());
         }
@@ -127,6 +159,7 @@ impl<'o> Model<'o> {
         }
         self.letters = met.iter().flatten().map(|met| met.letter).collect();
         self.letters.sort_unstable();
+        self.counted.add(&self.letters);
         self.write(word);
         self.before = word;
     }
@@ -137,6 +170,15 @@ impl<'o> Model<'o> {
             for (store, value) in &self.opened.letters[letter].writes {
                 self.stores[*store] = value.of(word);
             }
+        }
+    }
+
+    /// What a word comes to that meets these letters. Limits are asked only if all monitors fit.
+    fn said(&self, crossed: &[Option<Vec<Met>>]) -> Said {
+        match crossed.iter().position(|met| !fits(met)) {
+            None => self.counted.beyond(&letters(crossed)).next().map_or(Said::Ok, Said::Beyond),
+            Some(monitor) if crossed.iter().all(Option::is_some) => Said::Busy(monitor),
+            Some(monitor) => Said::Bad(monitor),
         }
     }
 
@@ -156,12 +198,9 @@ fn fits(met: &Option<Vec<Met>>) -> bool {
     met.as_ref().is_some_and(|met| !is_busy(met))
 }
 
-fn said(crossed: &[Option<Vec<Met>>]) -> Said {
-    match crossed.iter().position(|met| !fits(met)) {
-        None => Said::Ok,
-        Some(monitor) if crossed.iter().all(Option::is_some) => Said::Busy(monitor),
-        Some(monitor) => Said::Bad(monitor),
-    }
+/// The letters of the monitors that fit.
+fn letters(crossed: &[Option<Vec<Met>>]) -> Vec<usize> {
+    crossed.iter().filter(|met| fits(met)).flatten().flatten().map(|met| met.letter).collect()
 }
 
 /// Whether two of the letters are of one thread, and so of two starts of it.
@@ -306,6 +345,18 @@ mod tests {
         assert_eq!((model.look(3), model.look(1), model.look(2)), (Said::Busy(1), Said::Bad(1), Said::Bad(1)));
     }
 
+    /// Of several limits the lowest is named, a bad monitor before all of them, and a tick that is not taken counts for nothing.
+    #[test]
+    fn limits_are_asked_behind_all_monitors() {
+        let opened = open("input a; input b; x -> a; p -> x || !a; q -> b; limit x to 2 in 1024; limit x to 1 in 2; limit x to 1 in 3; monitor p, q;");
+        let mut model = Model::new(&opened);
+        assert_eq!([model.take(3), model.take(3), model.take(3)], [OK, Said::Beyond(1), Said::Beyond(1)]);
+        assert_eq!([model.look(1), model.look(0)], [Said::Bad(1); 2]);
+        assert_eq!([model.take(2), model.look(3), model.look(1), model.take(2), model.take(3)], [OK, Said::Beyond(2), Said::Bad(1), OK, OK]);
+        assert_eq!([model.take(2), model.take(2), model.take(2), model.take(3)], [OK, OK, OK, Said::Beyond(0)]);
+        assert_eq!([Said::Beyond(1), OK, Said::Bad(1), Said::Busy(2)].map(Said::number), [Some(33), None, Some(1), Some(2)]);
+    }
+
     /// What `second` says of the words of grown cases, the model says too, and how many rows they touch.
     #[test]
     fn the_model_answers_as_second_does() {
@@ -321,14 +372,10 @@ mod tests {
                 let taken = watch.take(word);
                 let answer = match taken.answer {
                     Answer::Refused(_) => break,
-                    Answer::Ok => OK,
-                    Answer::Bad(monitor) => Said::Bad(monitor),
+                    Answer::Ok => None,
+                    Answer::Bad(number) => Some(number),
                 };
-                let said = match model.take(word) {
-                    Said::Busy(monitor) => Said::Bad(monitor),
-                    said => said,
-                };
-                assert_eq!(said, answer, "at tick {} of {}", watch.ticks(), String::from_utf8_lossy(&case.text));
+                assert_eq!(model.take(word).number(), answer, "at tick {} of {}", watch.ticks(), String::from_utf8_lossy(&case.text));
                 assert_eq!(model.stores, watch.stores());
                 assert_eq!(taken.touched as usize, touched.len(), "at tick {} of {}", watch.ticks(), String::from_utf8_lossy(&case.text));
                 compared += 1;
@@ -376,7 +423,7 @@ mod tests {
             let mut model = Model::new(&opened);
             for word in words(&case.trace) {
                 let crossed = model.cross(word);
-                if matches!(said(&crossed), Said::Busy(_)) {
+                if matches!(model.said(&crossed), Said::Busy(_)) {
                     crossed.iter().flatten().for_each(|met| meetings.count(&opened, met));
                 }
                 if model.take(word) != OK {

@@ -1,5 +1,5 @@
-//! Texts that `second` accepts, opened: the parts of each monitor, their letters, and the first values of the stores. Every copy of a production has parts of
-//! its own. Nothing is checked here, as the text is accepted; a refused one may give anything, or panic.
+//! Texts that `second` accepts, opened: the parts of each monitor, their letters, the first values of the stores, and the limits with the letters that count for
+//! each. Every copy of a production has parts of its own. Nothing is checked here, as the text is accepted; a refused one may give anything, or panic.
 
 use crate::past;
 use std::collections::HashMap;
@@ -39,6 +39,22 @@ pub struct Letter {
     pub writes: Vec<(usize, Value)>,
 }
 
+/// A limit: of so many ticks in a row, at most so many may meet one of its letters.
+#[derive(Debug, PartialEq, Eq)]
+pub struct Limit {
+    pub most: usize,
+    pub window: usize,
+    /// Whether each letter counts: those do that came through the limited production.
+    pub counts: Vec<bool>,
+}
+
+impl Limit {
+    /// Whether a tick at which these letters are met counts.
+    pub fn is_met(&self, letters: &[usize]) -> bool {
+        letters.iter().any(|&letter| self.counts[letter])
+    }
+}
+
 /// An opened text. Letters are in reading order, those of a later monitor behind those of the earlier ones.
 #[derive(Default)]
 pub struct Opened {
@@ -50,6 +66,7 @@ pub struct Opened {
     pub monitors: Vec<usize>,
     pub stores: Vec<u64>,
     pub wires: u32,
+    pub limits: Vec<Limit>,
 }
 
 impl Opened {
@@ -65,6 +82,12 @@ impl Opened {
             parts.iter().filter(|part| matches!(part, Part::Letter(_))).count()
         };
         self.monitors.iter().map(letters).collect()
+    }
+
+    /// The letters that count for some limit, by the wires they look at and the values wanted.
+    pub fn counting(&self) -> Vec<(u64, u64)> {
+        let counts = |letter: usize| self.limits.iter().any(|limit| limit.counts[letter]);
+        (0..self.letters.len()).filter(|&letter| counts(letter)).map(|letter| (self.letters[letter].look, self.letters[letter].want)).collect()
     }
 
     /// The letters of left operands of `@`, by the wires they look at and the values wanted.
@@ -98,6 +121,7 @@ pub fn open(text: &str) -> Opened {
         reader.statement();
     }
     reader.opened.wires = reader.wires;
+    reader.opened.limits = reader.limits.iter().map(|limit| reader.limit_of(limit)).collect();
     reader.opened
 }
 
@@ -118,6 +142,12 @@ struct Reader<'t> {
     stores: HashMap<&'t str, usize>,
     /// The tokens at which the bodies of defines and productions begin.
     bodies: HashMap<&'t str, usize>,
+    /// The names of the productions whose copies are being opened, the monitor's first.
+    through: Vec<&'t str>,
+    /// The names that each letter came through.
+    came_through: Vec<Vec<&'t str>>,
+    /// The limits: the production, the most ticks and the window of each.
+    limits: Vec<(&'t str, usize, usize)>,
     opened: Opened,
 }
 
@@ -156,9 +186,27 @@ impl<'t> Reader<'t> {
                 let name = self.next();
                 self.body(name, 1);
             }
+            "limit" => self.limit(),
             "monitor" => self.monitors(),
             name => self.body(name, 2),
         }
+    }
+
+    /// `P to n in w;`
+    fn limit(&mut self) {
+        let name = self.next();
+        self.at += 1;
+        let most = self.number() as usize;
+        self.at += 1;
+        let window = self.number() as usize;
+        self.at += 1;
+        self.limits.push((name, most, window));
+    }
+
+    /// A limit with its letters, once all monitors are opened.
+    fn limit_of(&self, &(name, most, window): &(&str, usize, usize)) -> Limit {
+        let counts = self.came_through.iter().map(|names| names.contains(&name)).collect();
+        Limit { most, window, counts }
     }
 
     /// `[h:0]`, or nothing for one bit.
@@ -207,13 +255,21 @@ impl<'t> Reader<'t> {
     fn monitors(&mut self) {
         loop {
             let name = self.next();
-            let monitor = self.elsewhere(self.bodies[name], Self::choice);
+            let monitor = self.copy(name, self.bodies[name]);
             self.opened.monitors.push(monitor);
             if !self.takes(",") {
                 self.at += 1;
                 return;
             }
         }
+    }
+
+    /// A copy of the production of this name, whose body begins there.
+    fn copy(&mut self, name: &'t str, body: usize) -> usize {
+        self.through.push(name);
+        let part = self.elsewhere(body, Self::choice);
+        self.through.pop();
+        part
     }
 
     // ---- expressions, the loosest operator first
@@ -274,10 +330,11 @@ impl<'t> Reader<'t> {
             self.at += 1;
             return part;
         }
-        match self.bodies.get(self.tokens[self.at]) {
+        let name = self.tokens[self.at];
+        match self.bodies.get(name) {
             Some(&body) if self.tokens[body - 1] == ">" => {
                 self.at += 1;
-                self.elsewhere(body, Self::choice)
+                self.copy(name, body)
             }
             _ => self.letter(),
         }
@@ -292,6 +349,7 @@ impl<'t> Reader<'t> {
             self.writes(&mut letter);
         }
         self.opened.letters.push(letter);
+        self.came_through.push(self.through.clone());
         self.put(Part::Letter(self.opened.letters.len() - 1))
     }
 
@@ -419,6 +477,27 @@ mod tests {
     fn letters_are_counted_by_monitor() {
         let opened = open("input a; input b[2:0]; q -> a || !a @ (a, a); p -> a*, q, !a; monitor p, q, p;");
         assert_eq!((opened.letters_of_monitors(), opened.letters.len(), opened.wires), (vec![6, 4, 6], 16, 4));
+    }
+
+    /// The letters that count for each limit, behind its two numbers.
+    fn limits(text: &str) -> Vec<(usize, usize, Vec<usize>)> {
+        let counted = |limit: &Limit| (0..limit.counts.len()).filter(|&letter| limit.counts[letter]).collect();
+        open(text).limits.iter().map(|limit| (limit.most, limit.window, counted(limit))).collect()
+    }
+
+    /// A letter counts for each production that its copy came through, wherever the limit stands, and the same letter written out does not.
+    #[test]
+    fn letters_count_by_the_names_they_came_through() {
+        let text =
+            "input a; q -> a; p -> (q); limit q to 3 in 1024; m -> a, q, p || !a, p; r -> !a; limit p to 00 in 01; limit r to 1in 2; monitor m, p, q, m;";
+        assert_eq!(limits(text), [(3, 1024, vec![1, 2, 4, 5, 6, 8, 9, 11]), (0, 1, vec![2, 4, 5, 9, 11]), (1, 2, vec![])]);
+    }
+
+    #[test]
+    fn letters_that_count_are_known_by_their_wires() {
+        let opened = open("input a; input b; x -> a & !b; y -> b; p -> x || y, x || !a & !b; limit x to 1 in 2; limit x to 2 in 3; monitor p;");
+        assert_eq!(opened.counting(), [(0b11, 0b01), (0b11, 0b01)]);
+        assert!(opened.limits[0].is_met(&[1, 2]) && !opened.limits[1].is_met(&[1, 3]) && !opened.limits[0].is_met(&[]));
     }
 
     #[test]

@@ -218,7 +218,7 @@ fn in_a_statement(random: &mut Random) -> (u8, String) {
 }
 
 /// Tokens with white space between them, mostly little, but where two would grow together; and the byte of the one marked.
-fn laid_out(random: &mut Random, tokens: &str) -> (String, Option<usize>) {
+pub fn laid_out(random: &mut Random, tokens: &str) -> (String, Option<usize>) {
     let grows = |c: Option<char>| c.is_some_and(|c| c.is_ascii_alphanumeric() || c == '_');
     let sign = |c: Option<char>| c.is_some_and(|c| "=|-<>".contains(c));
     let (mut text, mut at) = (String::new(), None);
@@ -244,7 +244,11 @@ pub fn parts(text: &str) -> Vec<&str> {
     let mut parts = Vec::new();
     let mut rest = text;
     while let Some(first) = rest.chars().next() {
-        let end = if in_name(first) { rest.find(|c| !in_name(c)).unwrap_or(rest.len()) } else { first.len_utf8() };
+        let end = match first {
+            '0'..='9' => rest.find(|c: char| !c.is_ascii_digit()).unwrap_or(rest.len()),
+            _ if in_name(first) => rest.find(|c| !in_name(c)).unwrap_or(rest.len()),
+            _ => first.len_utf8(),
+        };
         let (part, behind) = rest.split_at(end);
         parts.push(part);
         rest = behind;
@@ -307,6 +311,13 @@ mod tests {
             numbers.insert(number);
         }
         assert_eq!(numbers.into_iter().collect::<Vec<u8>>(), [0, 2, 3, 4, 5, 6, 7, 9, 10, 11, 12]);
+    }
+
+    /// A name may stand right behind a number.
+    #[test]
+    fn names_and_numbers_are_parted() {
+        assert_eq!(parts("limit x to 12in 3;"), ["limit", " ", "x", " ", "to", " ", "12", "in", " ", "3", ";"]);
+        assert_eq!(parts("a1 -> 7a_2||!x"), ["a1", " ", "-", ">", " ", "7", "a_2", "|", "|", "!", "x"]);
     }
 
     #[test]

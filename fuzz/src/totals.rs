@@ -1,16 +1,20 @@
 //! How often each letter was met (docs/REFERENCE.md, F27 and F28), by the model, and so the foot that a sheet or an answer to calls must have (P10), or that it
-//! must have none. Of the refusals the model knows stray words and takes behind a bad one; a million takes are left to other tests. And what a case shows
-//! that is easily missed: a letter that two branches have at one tick, a bad tick that meets letters of other monitors, and a letter that is never met.
+//! must have none; and what must stand above it: the last line of a sheet, or the answer to every call. Of the refusals the model knows stray words and calls
+//! behind a bad take; a million takes are left to other tests. And what a case shows that is easily missed: a letter that two branches have at one tick, a bad
+//! tick that meets letters of other monitors, and a letter that is never met.
 
 use crate::model::{Model, Said};
 use crate::opened::{self, Opened};
-use crate::{calls, compare, Case};
+use crate::{calls, compare, windows, Case};
 use std::fmt;
 
-/// The foot of a sheet or of an answer to calls, and what the case shows.
+/// The foot of a sheet or of an answer to calls, the lines right above it, and what the case shows.
 pub struct Foot {
+    /// Without the rows that a take touches.
+    pub above: Vec<String>,
     pub lines: String,
     pub shown: Shown,
+    pub limits: windows::Shown,
 }
 
 #[derive(Clone, Copy, Debug, Default, PartialEq, Eq)]
@@ -32,30 +36,55 @@ struct Counting<'o> {
     letters: Vec<u64>,
     /// For each tick, how many letters were met there.
     ticks: Vec<usize>,
+    above: Vec<String>,
     shown: Shown,
+    limits: windows::Shown,
 }
 
 impl<'o> Counting<'o> {
     fn new(opened: &'o Opened) -> Self {
-        let letters = vec![0; opened.letters.len()];
-        Counting { opened, model: Model::new(opened), stopped: false, letters, ticks: Vec::new(), shown: Shown::default() }
+        let (letters, limits) = (vec![0; opened.letters.len()], windows::Shown::new(&opened.limits));
+        let shown = Shown::default();
+        Counting { opened, model: Model::new(opened), stopped: false, letters, ticks: Vec::new(), above: Vec::new(), shown, limits }
     }
 
-    /// What a take of the word comes to; nothing if it is refused.
-    fn take(&mut self, word: u64) -> Option<Said> {
-        if self.stopped || word.checked_shr(self.opened.wires).unwrap_or(0) != 0 {
-            return None;
+    /// The number that refuses a call, if it is refused.
+    fn refusal(&self, word: u64) -> Option<u8> {
+        let above = word.checked_shr(self.opened.wires).unwrap_or(0);
+        match (self.stopped, above) {
+            (true, _) => Some(16),
+            (_, 0) => None,
+            _ => Some(15),
+        }
+    }
+
+    /// What a look at the word comes to, or the number that refuses it.
+    fn look(&mut self, word: u64) -> Result<Said, u8> {
+        if let Some(number) = self.refusal(word) {
+            return Err(number);
+        }
+        let said = self.model.look(word);
+        self.limits.look(said);
+        Ok(said)
+    }
+
+    /// What a take of the word comes to, or the number that refuses it.
+    fn take(&mut self, word: u64) -> Result<Said, u8> {
+        if let Some(number) = self.refusal(word) {
+            return Err(number);
         }
         let two_branches = self.model.ways(word) > 1;
         let said = self.model.take(word);
         if said == Said::Ok {
             self.shown.two_branches |= two_branches;
+            self.limits.ok(&self.model);
             self.count();
         } else {
             self.stopped = true;
             self.shown.bad_adds = self.model.fitting(word) > 0;
+            self.limits.bad(&self.model, word, said);
         }
-        Some(said)
+        Ok(said)
     }
 
     /// Counts the letters of a tick that was ok, each once.
@@ -76,7 +105,8 @@ impl<'o> Counting<'o> {
             }
         }
         lines += &format!("total {}\n", self.ticks.iter().sum::<usize>());
-        Foot { lines, shown: self.shown }
+        self.limits.close(&self.opened.limits);
+        Foot { above: self.above, lines, shown: self.shown, limits: self.limits }
     }
 }
 
@@ -85,11 +115,13 @@ pub fn of_sheet(case: &Case) -> Option<Foot> {
     let opened = opened::accepted(&case.text)?;
     let mut counting = Counting::new(&opened);
     let (words, whole) = compare::read(&case.trace);
-    for word in words {
-        if counting.take(word)? != Said::Ok {
+    for (tick, word) in words.into_iter().enumerate() {
+        if let Some(number) = counting.take(word).ok()?.number() {
+            counting.above.push(format!("{tick} {word:016x} bad {number}"));
             return Some(counting.foot());
         }
     }
+    counting.above.push(format!("clean {}", counting.ticks.len()));
     whole.then(|| counting.foot())
 }
 
@@ -97,8 +129,13 @@ pub fn of_sheet(case: &Case) -> Option<Foot> {
 pub fn of_calls(case: &Case) -> Option<Foot> {
     let opened = opened::accepted(&case.text)?;
     let mut counting = Counting::new(&opened);
-    for word in calls::takes(&case.trace) {
-        counting.take(word);
+    for (call, word) in calls::calls_of(&case.trace) {
+        let (name, came) = if call == calls::LOOK { ("look", counting.look(word)) } else { ("take", counting.take(word)) };
+        let said = match came {
+            Err(number) => format!("refused {number}"),
+            Ok(said) => said.number().map_or(String::from("ok"), |number| format!("bad {number}")),
+        };
+        counting.above.push(format!("{name} {said}"));
     }
     Some(counting.foot())
 }
@@ -115,10 +152,21 @@ pub fn parted(printed: &[u8]) -> (&[u8], &[u8]) {
     printed.split_at(above)
 }
 
-/// What is wrong with what is printed, if it has another foot than this, or one where there must be none.
+/// What is wrong with what is printed, if it has another foot than this, or one where there must be none, or other lines above it.
 pub fn fault(printed: &[u8], foot: Option<&Foot>) -> Option<&'static str> {
-    let right = foot.map_or("", |foot| &foot.lines);
-    (parted(printed).1 != right.as_bytes()).then_some("the foot is not the model's")
+    let (above, lines) = parted(printed);
+    if lines != foot.map_or("", |foot| &foot.lines).as_bytes() {
+        return Some("the foot is not the model's");
+    }
+    let is_above = foot.is_none_or(|foot| ends_with(above, &foot.above));
+    (!is_above).then_some("an answer is not the model's")
+}
+
+/// Whether what is printed ends with these lines, the rows that a take touches left out.
+fn ends_with(printed: &[u8], lines: &[String]) -> bool {
+    let printed = String::from_utf8_lossy(printed);
+    let mut last = printed.lines().rev().map(|line| line.split_once(" touched ").map_or(line, |(said, _)| said));
+    lines.iter().rev().all(|line| last.next() == Some(line))
 }
 
 /// What the feet of many cases show.
@@ -209,6 +257,33 @@ mod tests {
         assert!(of_calls(&calls("input a; p -> a || a; monitor p;", &[ok])).is_none());
     }
 
+    /// At most one of three ticks may have wire a; monitor 1 wants wire b.
+    const LIMITED: &str = "input a; input b; x -> a; p -> x || !a; q -> b; limit x to 2 in 9; limit x to 1 in 3; monitor p, q;";
+
+    #[test]
+    fn the_lines_above_a_foot_are_told() {
+        let above = |trace: &[u8]| of_sheet(&case(LIMITED, trace)).map(|foot| foot.above.concat());
+        assert_eq!(above(&[1, 3, 1, 2, 0, 1, 3]), Some(String::from("clean 4")));
+        assert_eq!(above(&[1, 3, 1, 2, 1, 3]), Some(String::from("2 0000000000000003 bad 33")));
+        assert_eq!(above(&[1, 3, 1, 2, 0, 1, 3, 1, 1]), Some(String::from("4 0000000000000001 bad 1")));
+        assert_eq!(above(&[1, 3, 1, 2, 0, 1, 3, 1, 2, 0, 1, 3]), Some(String::from("6 0000000000000003 bad 32")));
+        assert_eq!(above(&[1, 3, 1, 4]), None);
+        let (ok, look, stray) = ((b'T', 3), (b'L', 3), (b'L', 4));
+        let above = of_calls(&calls(LIMITED, &[look, ok, look, stray, (b'L', 1), (b'T', 2), ok, look])).expect("it is accepted").above;
+        assert_eq!(above, ["look ok", "take ok", "look bad 33", "look refused 15", "look bad 1", "take ok", "take bad 33", "look refused 16"]);
+    }
+
+    #[test]
+    fn every_wrong_answer_is_found() {
+        let case = calls(LIMITED, &[(b'T', 3), (b'L', 3), (b'T', 3)]);
+        let right = String::from_utf8(calls::answer(&case)).expect("it is ASCII");
+        let is_wrong = |printed: &str| fault(printed.as_bytes(), of_calls(&case).as_ref()).is_some();
+        assert!(!is_wrong(&right));
+        for (part, other) in [("look bad 33", "look ok"), ("look bad 33", "look bad 32"), ("take bad 33", "take bad 1"), ("look bad 33\n", "")] {
+            assert!(is_wrong(&right.replace(part, other)), "{other} for {part}");
+        }
+    }
+
     #[test]
     fn a_foot_is_parted_from_the_lines_above() {
         let above = "rows 1 letters 1\n0 0000000000000001 ok\nclean 1\n";
@@ -227,6 +302,7 @@ mod tests {
             assert!(is_wrong(&[1, 1], &right.replace(part, other)), "{other} for {part}");
         }
         assert!(is_wrong(&[1, 1], "clean 1\n"));
+        assert!(is_wrong(&[1, 1], &right.replace("clean 1", "clean 2")));
         assert!(!is_wrong(&[1, 1, 1], "refused 13 1\n"));
         assert!(is_wrong(&[1, 1, 1], &right.replace("clean 1", "refused 13 1")));
     }

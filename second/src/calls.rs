@@ -59,7 +59,7 @@ impl fmt::Display for Said {
     fn fmt(&self, f: &mut fmt::Formatter<'_>) -> fmt::Result {
         match self.0 {
             Answer::Ok => write!(f, "ok"),
-            Answer::Bad(monitor) => write!(f, "bad {monitor}"),
+            Answer::Bad(number) => write!(f, "bad {number}"),
             Answer::Refused(refusal) => write!(f, "refused {}", refusal.number()),
         }
     }

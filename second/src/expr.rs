@@ -3,7 +3,9 @@
 //!
 //! A production's name is not copied here: it is simply the number of the
 //! production's node, so doubling productions cost nothing. What a copy would
-//! count (letters, rows) is measured once for each node.
+//! count (letters, rows) is measured once for each node. A production has a
+//! node of its own above its expression, so that `q -> a` and `p -> q` can be
+//! told apart.
 
 use crate::letter::Letter;
 
@@ -11,7 +13,7 @@ use crate::letter::Letter;
 #[derive(Clone, Copy, Debug, PartialEq, Eq)]
 pub struct ExprId(usize);
 
-/// A node: a letter or an operator.
+/// A node: a letter, an operator or a production.
 #[derive(Clone, Copy, Debug, PartialEq, Eq)]
 pub enum Expr {
     /// A letter, by its number in the table of letters.
@@ -24,6 +26,9 @@ pub enum Expr {
     Choice(ExprId, ExprId),
     /// `e @ f`
     Pipeline(ExprId, ExprId),
+    /// A production with this expression. It is nothing but its expression
+    /// under a name, and adds no row.
+    Production(ExprId),
 }
 
 /// What can be said of a node once its productions are opened. Letters are
@@ -41,6 +46,13 @@ pub struct Measure {
     /// The lowest first letter of a star's body or an operand of `@` that is
     /// nullable.
     pub hollow_part: Option<u32>,
+}
+
+impl Measure {
+    /// Whether the node is one letter and no operator: its only row.
+    pub fn is_one_letter(&self) -> bool {
+        self.rows == 1
+    }
 }
 
 /// The table of all nodes and letters of a text.
@@ -113,6 +125,7 @@ impl Exprs {
                     ..both
                 }
             }
+            Expr::Production(body) => self.measure(body),
         }
     }
 }
@@ -157,6 +170,30 @@ mod tests {
             assert_eq!(counted, expected.min(u128::from(u32::MAX)));
         }
         assert_eq!(exprs.measure(last).rows, u32::MAX);
+    }
+
+    #[test]
+    fn one_letter_stays_one_under_any_number_of_names() {
+        let mut exprs = Exprs::default();
+        let letter = exprs.add_letter(letter());
+        let inner = exprs.add(Expr::Production(letter));
+        let outer = exprs.add(Expr::Production(inner));
+        assert_ne!(inner, outer);
+        for id in [letter, inner, outer] {
+            assert_eq!(exprs.measure(id), exprs.measure(letter));
+            assert!(exprs.measure(id).is_one_letter());
+        }
+        for expr in [
+            Expr::Star(outer),
+            Expr::Sequence(letter, letter),
+            Expr::Choice(outer, inner),
+            Expr::Pipeline(inner, letter),
+        ] {
+            let id = exprs.add(expr);
+            let named = exprs.add(Expr::Production(id));
+            assert_eq!(exprs.measure(named), exprs.measure(id));
+            assert!(!exprs.measure(named).is_one_letter());
+        }
     }
 
     #[test]

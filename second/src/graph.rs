@@ -45,6 +45,8 @@ pub struct Way {
 /// An opened monitor.
 pub struct Graph {
     pub letters: Vec<Letter>,
+    /// For each letter, the productions it was opened through, innermost first.
+    through: Vec<Vec<ExprId>>,
     /// For each letter, the ways on from it.
     pub ways: Vec<Vec<Way>>,
     /// For each run, the letters that can come first.
@@ -82,10 +84,12 @@ struct Part {
 impl Graph {
     /// Opens an expression of at most 256 letters. A star's body may not be
     /// nullable: this bounds the number of stars, and so the depth of the
-    /// recursion, by about twice the number of letters.
+    /// recursion, by about twice the number of letters and the number of
+    /// productions.
     pub fn open(exprs: &Exprs, monitor: ExprId) -> Graph {
         let mut graph = Graph {
             letters: Vec::new(),
+            through: Vec::new(),
             ways: Vec::new(),
             first: vec![Set::EMPTY],
             midway: vec![Set::EMPTY],
@@ -100,6 +104,18 @@ impl Graph {
         graph.connect(&whole.last, &whole);
         graph.begin = whole.begin;
         graph
+    }
+
+    /// The letters that were opened through a production, whether or not through
+    /// others besides.
+    pub fn opened_through(&self, production: ExprId) -> Set {
+        let mut opened = Set::EMPTY;
+        for (letter, through) in self.through.iter().enumerate() {
+            if through.contains(&production) {
+                opened.insert(letter as LetterNo);
+            }
+        }
+        opened
     }
 
     fn part(&mut self, exprs: &Exprs, id: ExprId) -> Part {
@@ -121,8 +137,20 @@ impl Graph {
                 let (left, right) = (self.part(exprs, left), self.part(exprs, right));
                 self.pipeline(left, right)
             }
+            Expr::Production(body) => return self.production(exprs, id, body),
         };
         self.with_row(part)
+    }
+
+    /// Opens a copy of a production, which has no row beside those of its
+    /// expression. Every letter that comes of it is opened through it.
+    fn production(&mut self, exprs: &Exprs, id: ExprId, body: ExprId) -> Part {
+        let first = self.letters.len();
+        let part = self.part(exprs, body);
+        for through in &mut self.through[first..] {
+            through.push(id);
+        }
+        part
     }
 
     /// Gives a part its own row, which is asked as the part begins and left as
@@ -143,6 +171,7 @@ impl Graph {
     fn letter(&mut self, letter: &Letter) -> Part {
         let number = self.letters.len() as LetterNo;
         self.letters.push(letter.clone());
+        self.through.push(Vec::new());
         self.ways.push(Vec::new());
         self.after.push(Touched::default());
         let exit = Exit {

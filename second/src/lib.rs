@@ -7,12 +7,14 @@
 //! 2. `parse` reads the grammar and fills the tables of `letter` and `expr`,
 //! 3. `graph` opens a monitor into letters and "what can come next" relations,
 //!    and with `rows` finds the rows touched after each letter,
-//! 4. `shape` judges the limits and the shape rules (numbers 8 to 12),
+//! 4. `shape` judges the number of letters and the shape rules (numbers 8 to 12),
 //! 5. `fit` moves branches of a monitor over one word, and counts the rows they
 //!    touch,
-//! 6. `watch` keeps the branches, the stores and the totals of the letters from
-//!    tick to tick,
-//! 7. `record` reads and writes wire records, `sheet` prints what comes of
+//! 6. `window` tells which letters a `limit` of the text counts, and whether it
+//!    has been met too often,
+//! 7. `watch` keeps the branches, the stores, the totals of the letters and the
+//!    ticks of the limits from tick to tick,
+//! 8. `record` reads and writes wire records, `sheet` prints what comes of
 //!    them, and `calls` what comes of single calls; `lines` is what both print
 //!    with.
 //!
@@ -54,6 +56,7 @@ mod shape;
 mod sheet;
 mod token;
 mod watch;
+mod window;
 
 pub use calls::answer_calls;
 pub use refusal::{Place, Reason, Refusal};
@@ -73,5 +76,9 @@ pub mod limit {
     pub const LETTERS: u32 = 256;
     pub const STORE_TESTS: usize = 2;
     pub const WRITES: usize = 2;
+    /// How many limits a text may declare.
+    pub const LIMITS: usize = 8;
+    /// How many ticks the window of a limit may have.
+    pub const WINDOW: u32 = 1_024;
     pub const TICKS: u32 = 1_000_000;
 }

@@ -1,8 +1,9 @@
 //! The parser: reads the grammar of the rule text, token by token.
 //!
-//! It refuses with numbers 1 to 7. Each token is judged as soon as it is
-//! looked at and the checks on one token run from the lowest number to the
-//! highest, so the first refusal met is the one the specification asks for.
+//! It refuses with numbers 1 to 7, 21 and 22. Each token is judged as soon as it
+//! is looked at and the checks on one token run from the lowest number to the
+//! highest, so the first refusal met is the one the specification asks for. (21
+//! and 22 come between 6 and 7, but no token can be at fault by them and by 7.)
 
 use std::collections::HashMap;
 
@@ -21,8 +22,19 @@ pub struct Parsed {
     /// The stores' first values.
     pub stores: Vec<u64>,
     pub exprs: Exprs,
-    /// The expression of each monitor.
+    /// In the order of the text, which numbers them from 0.
+    pub limits: Vec<Limit>,
+    /// The production of each monitor.
     pub monitors: Vec<ExprId>,
+}
+
+/// `limit P to most in window`: of so many ticks in a row, no more may meet a
+/// letter opened through the production.
+#[derive(Clone, Copy, Debug, PartialEq, Eq)]
+pub struct Limit {
+    pub production: ExprId,
+    pub most: u32,
+    pub window: u32,
 }
 
 /// Reads a whole rule text.
@@ -42,6 +54,7 @@ pub fn parse(text: &[u8]) -> Result<Parsed> {
             .map(|store| store.first_value)
             .collect(),
         exprs: parser.exprs,
+        limits: parser.limits,
         monitors: parser.monitors,
     })
 }
@@ -79,6 +92,7 @@ struct Parser<'t> {
     stores: Vec<Store>,
     defines: Vec<Condition>,
     exprs: Exprs,
+    limits: Vec<Limit>,
     monitors: Vec<ExprId>,
 }
 
@@ -96,6 +110,7 @@ impl<'t> Parser<'t> {
             stores: Vec::new(),
             defines: Vec::new(),
             exprs: Exprs::default(),
+            limits: Vec::new(),
             monitors: Vec::new(),
         }
     }
@@ -163,6 +178,14 @@ impl<'t> Parser<'t> {
         }
     }
 
+    /// The production whose name must stand here; it is not passed yet.
+    fn production_here(&self) -> Result<ExprId> {
+        match self.known_name_here()? {
+            Meaning::Production(id) => Ok(id),
+            _ => self.refuse(Reason::Unknown),
+        }
+    }
+
     /// The undeclared name that must stand here; it is not passed yet.
     fn fresh_name_here(&self) -> Result<&'t [u8]> {
         match self.token {
@@ -189,6 +212,7 @@ impl<'t> Parser<'t> {
                 Token::Input => self.input()?,
                 Token::Internal => self.internal()?,
                 Token::Define => self.define()?,
+                Token::Limit => self.limit()?,
                 Token::Name(_) => self.production()?,
                 _ => return Ok(()),
             }
@@ -268,21 +292,61 @@ impl<'t> Parser<'t> {
         self.advance();
         self.expect(Token::Produces)?;
         let body = self.expression(limit::PARENTHESES)?;
-        self.names.insert(name, Meaning::Production(body));
+        let production = self.exprs.add(Expr::Production(body));
+        self.names.insert(name, Meaning::Production(production));
         Ok(())
+    }
+
+    /// `limit P to n in w`; it declares no name
+    fn limit(&mut self) -> Result<()> {
+        if self.limits.len() >= limit::LIMITS {
+            return self.refuse(Reason::Crowded);
+        }
+        self.advance();
+        let production = self.one_letter()?;
+        self.expect(Token::To)?;
+        let most = self.ticks_from(0, limit::WINDOW - 1)?;
+        self.expect(Token::In)?;
+        let window = self.ticks_from(most + 1, limit::WINDOW)?;
+        self.limits.push(Limit {
+            production,
+            most,
+            window,
+        });
+        Ok(())
+    }
+
+    /// The production of one letter whose name must stand here; it is passed.
+    fn one_letter(&mut self) -> Result<ExprId> {
+        let production = self.production_here()?;
+        if !self.exprs.measure(production).is_one_letter() {
+            return self.refuse(Reason::NotOneLetter);
+        }
+        self.advance();
+        Ok(production)
+    }
+
+    /// The number of a limit that must stand here and be within these bounds;
+    /// it is passed.
+    fn ticks_from(&mut self, least: u32, most: u32) -> Result<u32> {
+        match u32::try_from(self.number_here()?) {
+            Ok(ticks) if (least..=most).contains(&ticks) => {
+                self.advance();
+                Ok(ticks)
+            }
+            _ => self.refuse(Reason::LimitRange),
+        }
     }
 
     /// `monitor` production names joined by `,`
     fn monitor_statement(&mut self) -> Result<()> {
         self.expect(Token::Monitor)?;
         loop {
-            let Meaning::Production(body) = self.known_name_here()? else {
-                return self.refuse(Reason::Unknown);
-            };
+            let production = self.production_here()?;
             if self.monitors.len() >= limit::MONITORS {
                 return self.refuse(Reason::Crowded);
             }
-            self.monitors.push(body);
+            self.monitors.push(production);
             self.advance();
             if !self.accept(Token::Comma) {
                 return self.expect(Token::Semicolon);
@@ -338,9 +402,9 @@ impl Parser<'_> {
         match self.token {
             Token::OpenParen => self.parenthesis(levels),
             Token::Name(_) => match self.known_name_here()? {
-                Meaning::Production(body) => {
+                Meaning::Production(production) => {
                     self.advance();
-                    Ok(body)
+                    Ok(production)
                 }
                 _ => self.letter(),
             },

@@ -24,6 +24,11 @@ pub enum Reason {
     Stopped = 16,
     Full = 17,
     ShortBin = 18,
+    /// The numbers of a limit: too large, or a window not above the ticks
+    /// allowed in it.
+    LimitRange = 21,
+    /// A production to be limited that is not one letter.
+    NotOneLetter = 22,
 }
 
 /// What a refusal points at.

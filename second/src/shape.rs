@@ -8,6 +8,7 @@ use crate::limit;
 use crate::parse::{parse, Parsed};
 use crate::refusal::{Reason, Refusal};
 use crate::set::Set;
+use crate::window::Window;
 
 /// An accepted rule text, ready to be watched.
 pub struct Program {
@@ -16,6 +17,8 @@ pub struct Program {
     wires: u32,
     pub(crate) stores: Vec<u64>,
     pub(crate) monitors: Vec<Monitor>,
+    /// One for each limit.
+    pub(crate) windows: Vec<Window>,
 }
 
 impl Program {
@@ -38,6 +41,11 @@ impl Program {
     pub fn monitors(&self) -> usize {
         self.monitors.len()
     }
+
+    /// How many limits there are.
+    pub fn limits(&self) -> usize {
+        self.windows.len()
+    }
 }
 
 /// Opens a rule text, or says why it is turned away.
@@ -46,23 +54,27 @@ pub fn open(text: &[u8]) -> Result<Program, Refusal> {
         wires,
         stores,
         exprs,
+        limits,
         monitors,
     } = parse(text)?;
     let letters = count_letters(&exprs, &monitors)?;
-    let mut program = Program {
-        rows: 0,
-        letters,
-        wires,
-        stores,
-        monitors: Vec::new(),
-    };
+    let mut rows = 0;
+    let mut graphs = Vec::new();
     for (number, &body) in monitors.iter().enumerate() {
         let graph = open_monitor(&exprs, body)
             .map_err(|(reason, letter)| Refusal::at_letter(reason, number, letter as usize))?;
-        program.rows += exprs.measure(body).rows;
-        program.monitors.push(Monitor::new(graph));
+        rows += exprs.measure(body).rows;
+        graphs.push(graph);
     }
-    Ok(program)
+    let window = |limit| Window::new(limit, &graphs);
+    Ok(Program {
+        rows,
+        letters,
+        wires,
+        stores,
+        windows: limits.into_iter().map(window).collect(),
+        monitors: graphs.into_iter().map(Monitor::new).collect(),
+    })
 }
 
 /// Number 8: all monitors together have at most 256 letters.

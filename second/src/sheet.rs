@@ -37,8 +37,8 @@ fn put_ticks(watch: &mut Watch<'_>, trace: &[u8], lines: &mut Lines) -> Result<(
         }
         match watch.take(word).answer {
             Answer::Ok => lines.put(format_args!("{tick} {word:016x} ok")),
-            Answer::Bad(monitor) => {
-                lines.put(format_args!("{tick} {word:016x} bad {monitor}"));
+            Answer::Bad(number) => {
+                lines.put(format_args!("{tick} {word:016x} bad {number}"));
                 return Ok(());
             }
             Answer::Refused(refusal) => return Err(refusal),

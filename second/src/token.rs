@@ -13,6 +13,9 @@ pub enum Token<'t> {
     Define,
     Monitor,
     Past,
+    Limit,
+    To,
+    In,
     // The signs.
     Semicolon,
     Comma,
@@ -71,6 +74,9 @@ pub const RULE_WORDS: Reserved = &[
     (b"define", Token::Define),
     (b"monitor", Token::Monitor),
     (b"past", Token::Past),
+    (b"limit", Token::Limit),
+    (b"to", Token::To),
+    (b"in", Token::In),
 ];
 
 /// Reads tokens from front to back. Which words are reserved depends on the
@@ -229,6 +235,16 @@ mod tests {
         let found = tokens_with(RULE_WORDS, text);
         assert_eq!(found[..2], [(Token::Past, 0), (Token::Define, 5)]);
         assert_eq!(found[2..], names[2..]);
+    }
+
+    #[test]
+    fn the_words_of_a_limit_are_reserved_as_they_stand() {
+        let found = tokens("limit to in");
+        let words = [(Token::Limit, 0), (Token::To, 6), (Token::In, 9)];
+        assert_eq!(found[..3], words);
+        for name in ["limits", "Limit", "to_", "To", "t", "IN", "in2", "i"] {
+            assert_eq!(tokens(name)[0].0, Token::Name(name.as_bytes()));
+        }
     }
 
     #[test]

@@ -1,5 +1,5 @@
-//! The watch: branches, stores, the last word, the tick count and the totals of
-//! the letters, carried from tick to tick.
+//! The watch: branches, stores, the last word, the tick count, the totals of the
+//! letters and the ticks of the limits, carried from tick to tick.
 //!
 //! A look judges a word; a take judges it by the same look and then moves the
 //! watch over it. So the two never answer differently.
@@ -18,7 +18,8 @@ use crate::shape::Program;
 #[derive(Clone, Copy, Debug, PartialEq, Eq)]
 pub enum Answer {
     Ok,
-    /// The lowest monitor that no longer fits.
+    /// The lowest monitor that no longer fits; if all do, 32 and the number of
+    /// the lowest limit that the tick is beyond.
     Bad(usize),
     Refused(Refusal),
 }
@@ -45,6 +46,8 @@ pub struct Watch<'p> {
     branches: Vec<Vec<Branch>>,
     /// For each monitor, at how many ticks each of its letters was met.
     totals: Vec<Vec<u32>>,
+    /// For each limit, the ticks at which a letter that it counts was met.
+    limited: Vec<Vec<u32>>,
     /// Kept so that no look has to make room of its own. A take goes on with
     /// what its look has left there; a later look begins anew.
     room: RefCell<Room>,
@@ -72,6 +75,7 @@ impl<'p> Watch<'p> {
             stores: program.stores.clone(),
             branches: vec![vec![Branch::before_tick_0()]; monitors],
             totals: program.monitors.iter().map(no_totals).collect(),
+            limited: vec![Vec::new(); program.limits()],
             room: RefCell::new(Room {
                 next: vec![Vec::new(); monitors],
                 crossings: Vec::new(),
@@ -112,8 +116,9 @@ impl<'p> Watch<'p> {
         if let Some(reason) = self.refusal(word) {
             return Answer::Refused(Refusal::at_tick(reason, self.ticks));
         }
-        match self.cross(word) {
-            Some(monitor) => Answer::Bad(monitor),
+        // No limit is asked unless all monitors fit.
+        match self.cross(word).or_else(|| self.limit_exceeded()) {
+            Some(number) => Answer::Bad(number),
             None => Answer::Ok,
         }
     }
@@ -148,6 +153,7 @@ impl<'p> Watch<'p> {
     fn move_over(&mut self, word: u64) {
         std::mem::swap(&mut self.branches, &mut self.room.get_mut().next);
         self.meet_letters(word);
+        self.count_for_limits();
         self.before = word;
         self.ticks += 1;
     }
@@ -191,6 +197,25 @@ impl<'p> Watch<'p> {
             }
         }
         None
+    }
+
+    /// The number reported for the lowest limit that the tick is beyond whose
+    /// branches are in the room.
+    fn limit_exceeded(&self) -> Option<usize> {
+        let next = &self.room.borrow().next;
+        let mut limits = self.program.windows.iter().zip(&self.limited);
+        let exceeded = limits
+            .position(|(window, ticks)| window.is_exceeded(ticks, self.ticks, window.is_met(next)));
+        exceeded.map(|number| limit::MONITORS + number)
+    }
+
+    /// Enters the tick for each limit of which a letter was met.
+    fn count_for_limits(&mut self) {
+        for (window, ticks) in self.program.windows.iter().zip(&mut self.limited) {
+            if window.is_met(&self.branches) {
+                ticks.push(self.ticks);
+            }
+        }
     }
 
     /// Counts the letters met and carries out their writes; the last one to a

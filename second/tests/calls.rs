@@ -12,8 +12,8 @@ const WIRES: &str = "input a; input b; input D[1:0]; ";
 /// How many words there are with these wires.
 const WORDS: u64 = 16;
 
-/// A thread, stores, words before, all of them together, and stars.
-const BODIES: [&str; 5] = [
+/// A thread, stores, words before, all of them together, stars, and limits.
+const BODIES: [&str; 6] = [
     "p -> a @ (b || !b, b) || !a; monitor p;",
     "internal h[1:0] = 1; internal s = 0; p -> a {h <- D;} || !a & D == h; \
      q -> b {s <- 1;} || !b & s == 1 {s <- 0; h <- 3;}; monitor p, q;",
@@ -21,6 +21,8 @@ const BODIES: [&str; 5] = [
     "internal h[1:0] = 0; p -> a {h <- D;} @ (D == past(D), D == h) || !a; \
      q -> !D[0] || D[0] & b == past(b) {h <- 1;}; monitor p, q;",
     "p -> (a & !b)*, b, ((D == 0)* || (D == 1)*), D == 2 & !b; monitor p, p;",
+    "x -> a; y -> !D[0]; p -> x @ (b || !b, y) || !a; q -> y || D[0]; \
+     limit x to 3 in 8; limit y to 2 in 4; monitor p, q;",
 ];
 
 /// Ok as long as a stands.

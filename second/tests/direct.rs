@@ -4,12 +4,12 @@
 //! an expression allows (each star up to two rounds); whether words fit, by
 //! following every branch with what each of its starts still has to do; which
 //! rows are touched, by asking of each branch what it can have ended and what
-//! it can begin; which letters are met, by listing those that the branches had.
-//! All of it takes far too long for large texts and shares nothing with the
-//! library.
+//! it can begin; which letters are met, by listing those that the branches had;
+//! whether a limit is kept, by going over all ticks of its window. All of it
+//! takes far too long for large texts and shares nothing with the library.
 //!
 //! One test draws any texts, another one texts and words with which starts of
-//! a thread often overlap.
+//! a thread often overlap, and a third one limits for such texts.
 
 mod common;
 
@@ -118,6 +118,8 @@ static WRITES: [Write; 4] = [
 struct Letter {
     literals: Vec<&'static Literal>,
     writes: Vec<&'static Write>,
+    /// The production it is a copy of; else it is written out.
+    name: Option<String>,
 }
 
 impl Letter {
@@ -144,6 +146,7 @@ impl Letter {
         Letter {
             literals,
             writes: Vec::new(),
+            name: None,
         }
     }
 
@@ -155,10 +158,25 @@ impl Letter {
         }
         let count = numbers.below(4).saturating_sub(2);
         let writes = (0..count).map(|_| &WRITES[numbers.below(4)]).collect();
-        Letter { literals, writes }
+        Letter {
+            literals,
+            writes,
+            name: None,
+        }
     }
 
+    /// How it stands in an expression.
     fn text(&self) -> String {
+        self.name.clone().unwrap_or_else(|| self.written_out())
+    }
+
+    /// The production it is a copy of, if it is one.
+    fn production(&self) -> Option<String> {
+        let name = self.name.as_ref()?;
+        Some(format!("{name} -> {}; ", self.written_out()))
+    }
+
+    fn written_out(&self) -> String {
         let literals: Vec<_> = self.literals.iter().map(|literal| literal.text).collect();
         let writes: String = self.writes.iter().map(|write| write.text).collect();
         let braces = if writes.is_empty() {
@@ -709,15 +727,111 @@ impl Monitor {
         }
     }
 
+    /// How many letters stand in the text.
+    fn written_letters(&self) -> usize {
+        if self.doubled {
+            self.letters.len() / 2
+        } else {
+            self.letters.len()
+        }
+    }
+
+    /// Has some letters be copies of productions of their own, of which there is
+    /// at least one.
+    fn name_letters(&mut self, number: usize, numbers: &mut Numbers) {
+        let count = self.written_letters();
+        let always = numbers.below(count);
+        for letter in 0..count {
+            if letter == always || numbers.below(3) == 0 {
+                let name = format!("x{number}_{letter}");
+                for copy in (letter..self.letters.len()).step_by(count) {
+                    self.letters[copy].name = Some(name.clone());
+                }
+            }
+        }
+    }
+
+    /// The names of the productions its letters are copies of.
+    fn names(&self) -> impl Iterator<Item = &String> {
+        let letters = &self.letters[..self.written_letters()];
+        letters.iter().filter_map(|letter| letter.name.as_ref())
+    }
+
     /// The production of this monitor, with what stands above it.
     fn text(&self, number: usize) -> String {
+        let letters = &self.letters[..self.written_letters()];
+        let named: String = letters.iter().filter_map(Letter::production).collect();
         if self.doubled {
             let half = self.expr.operands()[0].text(&self.letters);
             let sign = self.expr.sign();
-            format!("t{number} -> {half}; p{number} -> t{number} {sign} t{number}; ")
+            format!("{named}t{number} -> {half}; p{number} -> t{number} {sign} t{number}; ")
         } else {
-            format!("p{number} -> {}; ", self.expr.text(&self.letters))
+            format!("{named}p{number} -> {}; ", self.expr.text(&self.letters))
         }
+    }
+}
+
+/// A limit on the copies of a production.
+struct Limit {
+    name: String,
+    most: usize,
+    window: usize,
+}
+
+impl Limit {
+    fn random(names: &[&String], numbers: &mut Numbers) -> Limit {
+        let most = numbers.below(3);
+        Limit {
+            name: names[numbers.below(names.len())].clone(),
+            most,
+            window: most + 1 + numbers.below(4),
+        }
+    }
+
+    fn text(&self) -> String {
+        let Limit { name, most, window } = self;
+        format!("limit {name} to {most} in {window}; ")
+    }
+
+    /// Whether one of the letters met, monitor by monitor, counts.
+    fn counts(&self, monitors: &[Monitor], met: &[BTreeSet<usize>]) -> bool {
+        let name = Some(&self.name);
+        let mut monitors = monitors.iter().zip(met);
+        monitors.any(|(monitor, met)| {
+            let mut names = met.iter().map(|letter| &monitor.letters[*letter].name);
+            names.any(|own| own.as_ref() == name)
+        })
+    }
+
+    /// Whether the last tick is beyond the limit, from what is known of each
+    /// tick: whether a letter that counts was met there.
+    fn is_exceeded(&self, ticks: &[bool]) -> bool {
+        let window = ticks.iter().rev().take(self.window);
+        window.filter(|counts| **counts).count() > self.most
+    }
+}
+
+/// What a text says.
+struct Rules {
+    monitors: Vec<Monitor>,
+    limits: Vec<Limit>,
+}
+
+impl Rules {
+    fn unlimited(monitors: Vec<Monitor>) -> Rules {
+        let limits = Vec::new();
+        Rules { monitors, limits }
+    }
+
+    /// Adds one to three limits on letters of these monitors.
+    fn limited(mut monitors: Vec<Monitor>, numbers: &mut Numbers) -> Rules {
+        for (number, monitor) in monitors.iter_mut().enumerate() {
+            monitor.name_letters(number, numbers);
+        }
+        let names: Vec<&String> = monitors.iter().flat_map(Monitor::names).collect();
+        let count = 1 + numbers.below(3);
+        let limits = (0..count).map(|_| Limit::random(&names, numbers)).collect();
+        Rules { monitors, limits }
     }
 }
 
@@ -752,16 +866,21 @@ struct State<'e> {
     before: u64,
     /// For each monitor, the letters met at the tick before.
     met: Vec<BTreeSet<usize>>,
+    /// For each limit and each tick so far, whether a letter that counts was
+    /// met there.
+    counted: Vec<Vec<bool>>,
 }
 
-/// The lowest monitor that no longer fits.
+/// The lowest monitor that no longer fits, or 32 and the lowest limit that the
+/// tick is beyond.
 struct Fault<'e> {
-    monitor: usize,
+    number: usize,
     clashes: Vec<Clash<'e>>,
 }
 
 impl<'e> State<'e> {
-    fn first(monitors: usize) -> Self {
+    fn first(rules: &Rules) -> Self {
+        let monitors = rules.monitors.len();
         // The letter of this entry is never looked at.
         let begin: Doing = vec![(usize::MAX, Rc::new(Ahead::TheMonitorAgain))];
         State {
@@ -769,16 +888,32 @@ impl<'e> State<'e> {
             stores: FIRST_VALUES,
             before: 0,
             met: vec![BTreeSet::new(); monitors],
+            counted: vec![Vec::new(); rules.limits.len()],
         }
     }
 
-    /// The state after a word, if all monitors fit.
-    fn after(&self, monitors: &'e [Monitor], word: u64) -> Result<Self, Fault<'e>> {
+    /// The state after a word, if all monitors fit and no limit is exceeded.
+    fn after(&self, rules: &'e Rules, word: u64) -> Result<Self, Fault<'e>> {
+        let next = self.after_monitors(rules, word)?;
+        let mut limits = rules.limits.iter().zip(&next.counted);
+        match limits.position(|(limit, ticks)| limit.is_exceeded(ticks)) {
+            None => Ok(next),
+            Some(limit) => Err(Fault {
+                number: 32 + limit,
+                clashes: Vec::new(),
+            }),
+        }
+    }
+
+    /// The state after a word, if all monitors fit, whatever the limits say.
+    fn after_monitors(&self, rules: &'e Rules, word: u64) -> Result<Self, Fault<'e>> {
+        let Rules { monitors, limits } = rules;
         let mut next = State {
             branches: Vec::new(),
             stores: self.stores,
             before: word,
             met: Vec::new(),
+            counted: self.counted.clone(),
         };
         for (number, monitor) in monitors.iter().enumerate() {
             let met =
@@ -786,7 +921,7 @@ impl<'e> State<'e> {
             let moved = moved(&self.branches[number], &monitor.expr, &met);
             if moved.fitting.is_empty() {
                 return Err(Fault {
-                    monitor: number,
+                    number,
                     clashes: moved.clashes,
                 });
             }
@@ -804,6 +939,9 @@ impl<'e> State<'e> {
             }
             next.branches.push(moved.fitting);
             next.met.push(letters);
+        }
+        for (limit, ticks) in limits.iter().zip(&mut next.counted) {
+            ticks.push(limit.counts(monitors, &next.met));
         }
         Ok(next)
     }
@@ -868,6 +1006,11 @@ struct Seen {
     touched_twice: usize,
     /// Takes at which a monitor has several letters met.
     met_together: usize,
+    /// Looks that are bad by a limit, and those of them by a later one.
+    beyond: usize,
+    beyond_later: usize,
+    /// Takes that are ok though with a window longer by one they were not.
+    just_far_enough: usize,
 }
 
 impl Seen {
@@ -877,12 +1020,14 @@ impl Seen {
             return;
         };
         self.bad_looks += 1;
+        self.beyond += usize::from(fault.number >= 32);
+        self.beyond_later += usize::from(fault.number > 32);
         let Some(clash) = fault.clashes.first() else {
             return;
         };
         self.clashes += 1;
         self.in_one_place += usize::from(clash.letters[0] == clash.letters[1]);
-        let outer = monitors[fault.monitor].expr.threads().into_iter();
+        let outer = monitors[fault.number].expr.threads().into_iter();
         let mut inner = outer.flat_map(Expr::threads);
         self.in_inner_threads += usize::from(inner.any(|thread| ptr::eq(thread, clash.thread)));
     }
@@ -893,6 +1038,20 @@ impl Seen {
         self.in_threads += after.starts().count();
         self.handed_over += usize::from(before.hands_over_to(after));
         self.met_together += usize::from(after.met.iter().any(|met| met.len() > 1));
+    }
+
+    /// Sees how near an ok take was to a limit.
+    fn near_limits(&mut self, limits: &[Limit], after: &State) {
+        let mut limits = limits.iter().zip(&after.counted);
+        let near = limits.any(|(limit, ticks)| {
+            let longer = Limit {
+                name: limit.name.clone(),
+                most: limit.most,
+                window: limit.window + 1,
+            };
+            longer.is_exceeded(ticks) && ticks.last() == Some(&true)
+        });
+        self.just_far_enough += usize::from(near);
     }
 }
 
@@ -927,21 +1086,23 @@ impl Totals {
     }
 }
 
-/// A text with these monitors.
-fn text_of(monitors: &[Monitor]) -> String {
+/// A text that says this.
+fn text_of(rules: &Rules) -> String {
     let mut text = String::from(DECLARED);
     let mut names = Vec::new();
-    for (number, monitor) in monitors.iter().enumerate() {
+    for (number, monitor) in rules.monitors.iter().enumerate() {
         text += &monitor.text(number);
         names.push(format!("p{number}"));
     }
+    text.extend(rules.limits.iter().map(Limit::text));
     text + &format!("monitor {};", names.join(", "))
 }
 
-/// Opens a text of these monitors and judges some traces. Most of their words
-/// are drawn so many times among those that fit.
-fn compare(monitors: &[Monitor], picks: usize, numbers: &mut Numbers, seen: &mut Seen) {
-    let text = text_of(monitors);
+/// Opens a text and judges some traces. Most of their words are drawn so many
+/// times among those that fit.
+fn compare(rules: &Rules, picks: usize, numbers: &mut Numbers, seen: &mut Seen) {
+    let text = text_of(rules);
+    let monitors = &rules.monitors;
     let faults = monitors
         .iter()
         .map(|monitor| shape_fault(&monitor.expr, &monitor.letters));
@@ -965,7 +1126,7 @@ fn compare(monitors: &[Monitor], picks: usize, numbers: &mut Numbers, seen: &mut
             assert_eq!(program.rows() as usize, rows, "{text}");
             seen.accepted += 1;
             for _ in 0..4 {
-                run(&program, monitors, picks, numbers, seen, &text);
+                run(&program, rules, picks, numbers, seen, &text);
             }
         }
         (Ok(_), Some(fault)) => panic!("accepted despite {fault:?}: {text}"),
@@ -975,18 +1136,19 @@ fn compare(monitors: &[Monitor], picks: usize, numbers: &mut Numbers, seen: &mut
 
 fn run(
     program: &second::Program,
-    monitors: &[Monitor],
+    rules: &Rules,
     picks: usize,
     numbers: &mut Numbers,
     seen: &mut Seen,
     text: &str,
 ) {
+    let monitors = &rules.monitors;
     let mut watch = Watch::new(program);
-    let mut state = State::first(monitors.len());
+    let mut state = State::first(rules);
     let mut totals = Totals::new(monitors);
     let mut words = Vec::new();
     for _ in 0..10 {
-        let mut outcomes: Vec<_> = (0..WORDS).map(|w| state.after(monitors, w)).collect();
+        let mut outcomes: Vec<_> = (0..WORDS).map(|w| state.after(rules, w)).collect();
         for (word, outcome) in outcomes.iter().enumerate() {
             let answer = watch.look(word as u64);
             assert_eq!(answer, expected(outcome), "{text} {words:?} {word}");
@@ -1007,6 +1169,7 @@ fn run(
                 assert_eq!(watch.word_before(), word as u64, "{text} {words:?}");
                 assert_eq!(watch.widest(), 1, "{text} {words:?}");
                 seen.take(&state, &next);
+                seen.near_limits(&rules.limits, &next);
                 totals.add(&next);
                 totals.check(&watch, text, &words);
                 state = next;
@@ -1026,7 +1189,7 @@ fn run(
 fn expected(outcome: &Result<State, Fault>) -> Answer {
     match outcome {
         Ok(_) => Answer::Ok,
-        Err(fault) => Answer::Bad(fault.monitor),
+        Err(fault) => Answer::Bad(fault.number),
     }
 }
 
@@ -1052,8 +1215,8 @@ fn random_texts_agree_with_the_direct_meaning() {
     let mut seen = Seen::default();
     for _ in 0..20_000 {
         let count = 1 + numbers.below(2);
-        let monitors: Vec<_> = (0..count).map(|_| Monitor::random(&mut numbers)).collect();
-        compare(&monitors, 1, &mut numbers, &mut seen);
+        let monitors = (0..count).map(|_| Monitor::random(&mut numbers)).collect();
+        compare(&Rules::unlimited(monitors), 1, &mut numbers, &mut seen);
     }
     println!("{seen:?}");
     assert!(seen.accepted > 1_000, "{seen:?}");
@@ -1071,10 +1234,10 @@ fn random_texts_whose_threads_overlap_agree_with_the_direct_meaning() {
     let mut seen = Seen::default();
     for _ in 0..6_000 {
         let count = 1 + numbers.below(2);
-        let monitors: Vec<_> = (0..count)
+        let monitors = (0..count)
             .map(|_| Monitor::with_threads(&mut numbers))
             .collect();
-        compare(&monitors, 3, &mut numbers, &mut seen);
+        compare(&Rules::unlimited(monitors), 3, &mut numbers, &mut seen);
     }
     println!("{seen:?}");
     assert_eq!(seen.accepted, 6_000, "{seen:?}");
@@ -1084,5 +1247,26 @@ fn random_texts_whose_threads_overlap_agree_with_the_direct_meaning() {
     assert!(seen.in_inner_threads > 500, "{seen:?}");
     assert!(seen.handed_over > 500, "{seen:?}");
     assert!(seen.touched_twice > 500, "{seen:?}");
+    assert!(seen.met_together > 500, "{seen:?}");
+}
+
+#[test]
+fn random_texts_with_limits_agree_with_the_direct_meaning() {
+    let mut numbers = Numbers(7);
+    let mut seen = Seen::default();
+    for _ in 0..4_000 {
+        let count = 1 + numbers.below(2);
+        let monitors = (0..count)
+            .map(|_| Monitor::with_threads(&mut numbers))
+            .collect();
+        let rules = Rules::limited(monitors, &mut numbers);
+        compare(&rules, 1, &mut numbers, &mut seen);
+    }
+    println!("{seen:?}");
+    assert_eq!(seen.accepted, 4_000, "{seen:?}");
+    assert!(seen.ok > 10_000 && seen.bad > 500, "{seen:?}");
+    assert!(seen.beyond > 10_000, "{seen:?}");
+    assert!(seen.beyond_later > 500, "{seen:?}");
+    assert!(seen.just_far_enough > 500, "{seen:?}");
     assert!(seen.met_together > 500, "{seen:?}");
 }

@@ -202,11 +202,17 @@ mod tests {
         assert_eq!(letters(&format!("{text} monitor p8;"))[0].len(), 256);
     }
 
+    #[test]
+    fn limits_have_no_letters() {
+        let text = "input a;\nx -> a;\nlimit x to 1in 2;\np -> x || !a;\nlimit x to 0 in 5; monitor p, x;";
+        assert_eq!(said(text), ["a 2:6 x 4:6", "!a 4:11", "a 2:6"]);
+    }
+
     /// Texts that no library accepts do no harm.
     #[test]
     fn other_texts_do_no_harm() {
         let text = "input a; q -> a {s <- 1;}; p -> (q, !a == past(a))* @ q || \u{e4}; monitor p;";
-        let of_text = |text: String| of(&Rules { wires: vec![], monitors: vec![String::from("p")], text });
+        let of_text = |text: String| of(&Rules { monitors: vec![String::from("p")], text, ..Rules::default() });
         for (at, _) in text.char_indices() {
             let (before, from) = text.split_at(at);
             of_text(String::from(before));

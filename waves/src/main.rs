@@ -5,7 +5,7 @@ use std::ffi::OsString;
 use std::io::Write;
 use std::path::{Path, PathBuf};
 use std::process::ExitCode;
-use waves::rules::{Rules, Wire};
+use waves::rules::{Limit, Rules, Wire};
 use waves::sheet::Sheet;
 use waves::{library, rules, sheet, svg, table, totals, vcd};
 
@@ -45,15 +45,22 @@ fn run(arguments: &[PathBuf]) -> Option<Result<Vec<u8>, String>> {
     }
 }
 
-/// The counts, the wires and the monitors of an accepted text.
+/// The counts, the wires, the limits if there are any, and the monitors of an accepted text.
 fn check(file: &Path) -> Result<Vec<u8>, String> {
     let text = read(file)?;
     let rules = open(file, &text)?;
     let sheet = library::sheet(&text, &[]);
     let counts = String::from_utf8_lossy(&sheet).lines().next().unwrap_or_default().to_string();
     let wires: Vec<String> = rules.wires.iter().map(Wire::label).collect();
-    let monitors: Vec<String> = rules.monitors.iter().enumerate().map(|(number, name)| format!("{number} {name}")).collect();
-    Ok(format!("accepted: {counts}\nwires: {}\nmonitors: {}\n", wires.join(", "), monitors.join(", ")).into_bytes())
+    let limits = if rules.limits.is_empty() { String::new() } else { format!("limits: {}\n", numbered(rules.limits.iter().map(Limit::label))) };
+    let monitors = numbered(rules.monitors.iter().cloned());
+    Ok(format!("accepted: {counts}\nwires: {}\n{limits}monitors: {monitors}\n", wires.join(", ")).into_bytes())
+}
+
+/// Names behind their numbers.
+fn numbered(names: impl Iterator<Item = String>) -> String {
+    let numbered: Vec<String> = names.enumerate().map(|(number, name)| format!("{number} {name}")).collect();
+    numbered.join(", ")
 }
 
 fn trace(rules: &Path, table: &Path) -> Result<Vec<u8>, String> {

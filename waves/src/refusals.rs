@@ -1,6 +1,6 @@
 //! The words for what the line watch turns away: the table "What is turned away" of the specification.
 
-/// A word for each number from 1 on, and when it is given.
+/// A word for each number from 1 to 18, and when it is given.
 const REFUSALS: [(&str, &str); 18] = [
     ("overlong", "the text has more than 16,384 bytes"),
     ("knot", "there is no token here, or a name or a number that is too long"),
@@ -22,8 +22,17 @@ const REFUSALS: [(&str, &str); 18] = [
     ("short bin", "the room for a record is too small"),
 ];
 
+/// The same for the numbers from 21 on, those of limits.
+const OF_LIMITS: [(&str, &str); 2] = [
+    ("stretch", "in limit PRODUCTION to N in W the N is over 1,023, or the W is not above the N or over 1,024"),
+    ("not single", "a production to be limited that is not a single letter"),
+];
+
 /// What is said besides where the word `past` has to do with a misplaced token.
 pub const PAST: &str = "; past stands only in WIRE == past(WIRE), both times the bare name of the same input";
+
+/// What is said besides where the words of a limit have to do with a misplaced token.
+pub const LIMIT: &str = "; limit, to and in stand only in limit PRODUCTION to NUMBER in NUMBER";
 
 /// The word of a refusal's number.
 pub fn word(number: usize) -> &'static str {
@@ -36,7 +45,12 @@ pub fn reason(number: usize) -> &'static str {
 }
 
 fn entry(number: usize) -> (&'static str, &'static str) {
-    number.checked_sub(1).and_then(|i| REFUSALS.get(i)).copied().unwrap_or(("unnamed", "a number that the specification does not have"))
+    let found = match number {
+        0 => None,
+        1..=20 => REFUSALS.get(number - 1),
+        _ => OF_LIMITS.get(number - 21),
+    };
+    found.copied().unwrap_or(("unnamed", "a number that the specification does not have"))
 }
 
 #[cfg(test)]
@@ -46,6 +60,7 @@ mod tests {
     #[test]
     fn numbers_have_their_words() {
         assert_eq!([1, 2, 8, 12, 13, 18].map(word), ["overlong", "knot", "long run", "fork", "torn", "short bin"]);
-        assert_eq!([0, 19].map(word), ["unnamed", "unnamed"]);
+        assert_eq!([21, 22].map(word), ["stretch", "not single"]);
+        assert_eq!([0, 19, 20, 23, usize::MAX].map(word), ["unnamed"; 5]);
     }
 }

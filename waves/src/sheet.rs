@@ -1,13 +1,14 @@
 //! A printed sheet back into words, the verdict and the totals at its foot, and the first line in which a file is another sheet.
 
 use crate::refusals;
+use crate::rules::Rules;
 use std::str::Lines;
 
 /// How the ticks of a sheet end.
 #[derive(Debug, PartialEq)]
 pub enum End {
     Clean,
-    /// The last word's tick breaks this monitor.
+    /// The last word's tick is bad by this number: it breaks a monitor or, from 32 on, is beyond a limit.
     Bad(usize),
     /// The tick behind the last word is refused with this number. The sheet has no word for it.
     Refused(usize),
@@ -28,12 +29,12 @@ impl Sheet {
     }
 
     /// The verdict in words.
-    pub fn verdict(&self, monitors: &[String]) -> String {
+    pub fn verdict(&self, rules: &Rules) -> String {
         let last = self.ticks().saturating_sub(1);
         match self.end {
             End::Clean if self.words.len() == 1 => String::from("clean 1 tick"),
             End::Clean => format!("clean {} ticks", self.words.len()),
-            End::Bad(monitor) => format!("bad at tick {last}: monitor {monitor} ({})", monitors.get(monitor).map_or("", String::as_str)),
+            End::Bad(number) => format!("bad at tick {last}: {}", rules.named(number)),
             End::Refused(number) => format!("refused {number} ({}) at tick {last}", refusals::word(number)),
         }
     }
@@ -70,7 +71,7 @@ fn ticks(lines: &mut Lines) -> Option<(Vec<u64>, End)> {
                 words.push(u64::from_str_radix(word, 16).ok()?);
                 match *answer {
                     ["ok"] => None,
-                    ["bad", monitor] => Some(End::Bad(monitor.parse().ok()?)),
+                    ["bad", number] => Some(End::Bad(number.parse().ok()?)),
                     _ => return None,
                 }
             }
@@ -153,7 +154,7 @@ mod tests {
         assert_eq!(clean, Some(Sheet { words: vec![], end: End::Clean, met: vec![vec![0, 0]] }));
         let torn = read(b"rows 1 letters 1\n0 0000000000000002 ok\nrefused 13 1\n").unwrap();
         assert_eq!(torn, Sheet { words: vec![2], end: End::Refused(13), met: vec![] });
-        assert_eq!((torn.ticks(), torn.verdict(&[])), (2, String::from("refused 13 (torn) at tick 1")));
+        assert_eq!((torn.ticks(), torn.verdict(&Rules::default())), (2, String::from("refused 13 (torn) at tick 1")));
     }
 
     #[test]

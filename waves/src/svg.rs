@@ -72,7 +72,7 @@ pub fn write(name: &str, rules: &Rules, sheet: &Sheet, ticks: Range<usize>) -> S
         "<svg xmlns=\"http://www.w3.org/2000/svg\" width=\"{width}\" height=\"{height}\" viewBox=\"0 0 {width} {height}\" \
          font-family=\"monospace\">\n"
     );
-    out.push_str(&format!("<title>{}: {}</title>\n", escaped(name), escaped(&sheet.verdict(&rules.monitors))));
+    out.push_str(&format!("<title>{}: {}</title>\n", escaped(name), escaped(&sheet.verdict(rules))));
     out.push_str(&format!("<rect width=\"{width}\" height=\"{height}\" fill=\"#ffffff\"/>\n"));
     for (index, line) in heads.iter().enumerate() {
         let colour = if index == 1 { picture.end_colour() } else { TEXT };
@@ -96,7 +96,7 @@ pub fn write(name: &str, rules: &Rules, sheet: &Sheet, ticks: Range<usize>) -> S
 
 /// The lines above the waveform: the rule text's name, the verdict, why a tick was refused, and the ticks shown.
 fn head_lines(name: &str, rules: &Rules, sheet: &Sheet, ticks: &Range<usize>) -> Vec<String> {
-    let mut lines = vec![String::from(name), sheet.verdict(&rules.monitors)];
+    let mut lines = vec![String::from(name), sheet.verdict(rules)];
     if let End::Refused(number) = sheet.end {
         lines.push(String::from(refusals::reason(number)));
     }

@@ -22,7 +22,7 @@ struct Row<'a> {
 
 /// The verdict, the table and the letters never met; or why there are none.
 pub fn write(rules: &Rules, sheet: &Sheet) -> Result<String, String> {
-    let verdict = sheet.verdict(&rules.monitors);
+    let verdict = sheet.verdict(rules);
     if matches!(sheet.end, End::Refused(_)) {
         return Err(format!("there are no totals, as the sheet ends with a refusal: {verdict}"));
     }
@@ -165,6 +165,25 @@ never met: letter 3 of monitor 0 (p): \"a & five {s <- 1;}\" at line 4, column 8
 never met: letter 4 of monitor 0 (p): \"D == 3 & s == 1\" at line 6, column 13, through two at line 7, column 17
 ";
         assert_eq!(said(text, &[1 + 2 * 5, 2 * 3], 0).unwrap(), table);
+    }
+
+    /// The third tick would meet both letters of wire a, but is beyond the second limit.
+    #[test]
+    fn a_limit_is_named_with_its_numbers() {
+        let text = "input a;\nlog -> a;\nlimit log to 2 in 8;\nlimit log to 1 in 3;\np -> log || !a;\nmonitor p, p;\n";
+        let table = "\
+bad at tick 2: limit 1 (log to 1 in 3)
+
+monitor  letter  met  line  column  text  production
+0 (p)         0    1     2       8  a     p > log
+0 (p)         1    1     5      13  !a    p
+1 (p)         0    1     2       8  a     p > log
+1 (p)         1    1     5      13  !a    p
+total              4
+
+every letter was met
+";
+        assert_eq!(said(text, &[1, 0, 1], 0).unwrap(), table);
     }
 
     #[test]

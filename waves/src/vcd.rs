@@ -1,8 +1,8 @@
 //! A waveform as a value change dump (IEEE 1364), which wave viewers read.
 //!
 //! One time unit is one tick. Scope `line` has the wires, scope `watch` the verdict: `bad` rises at the bad tick, `monitor` is the monitor's number
-//! there and x elsewhere, `refused` is the refusal's number at the tick refused and 0 elsewhere. At a refused tick the wires are x, as the sheet has
-//! no word for it. After the first values only changes are written.
+//! there, or 32 and the number of a limit added up, and x elsewhere, `refused` is the refusal's number at the tick refused and 0 elsewhere. At a
+//! refused tick the wires are x, as the sheet has no word for it. After the first values only changes are written.
 
 use crate::rules::{Rules, Wire};
 use crate::sheet::{End, Sheet};
@@ -42,7 +42,7 @@ pub fn write(rules: &Rules, sheet: &Sheet) -> String {
 
 /// The declarations, in the order of `variables`.
 fn header(rules: &Rules, sheet: &Sheet) -> String {
-    let mut out = format!("$comment {}; one time unit is one tick $end\n$timescale 1 ns $end\n", sheet.verdict(&rules.monitors));
+    let mut out = format!("$comment {}; one time unit is one tick $end\n$timescale 1 ns $end\n", sheet.verdict(rules));
     out.push_str("$scope module line $end\n");
     for (index, wire) in rules.wires.iter().enumerate() {
         out.push_str(&declaration(index, wire.width, &wire.name));
@@ -65,7 +65,7 @@ fn variables<'a>(rules: &'a Rules, sheet: &'a Sheet) -> Vec<Variable<'a>> {
     let last = sheet.ticks().saturating_sub(1);
     let (bad, refused) = match sheet.end {
         End::Clean => (None, None),
-        End::Bad(monitor) => (Some(monitor as u64), None),
+        End::Bad(number) => (Some(number as u64), None),
         End::Refused(number) => (None, Some(number as u64)),
     };
     let wire = |wire: &'a Wire| Variable { width: wire.width, value: Box::new(|tick| Some(wire.value(*sheet.words.get(tick)?))) };
@@ -111,6 +111,15 @@ mod tests {
              $enddefinitions $end\n\
              #0\n$dumpvars\n1!\nb101 \"\n0#\nbx $\nb0 %\n$end\n#1\n0!\n#2\n1!\n#3\nb1100 \"\n1#\nb0 $\n#4\n"
         );
+    }
+
+    /// The second limit is named, as the sheet names it: 33.
+    #[test]
+    fn a_tick_beyond_a_limit() {
+        let text = b"input a; x -> a; limit x to 2 in 9; limit x to 1 in 2; monitor x;";
+        let all = waveform(text, &[1, 1, 0]);
+        assert!(all.starts_with("$comment bad at tick 1: limit 1 (x to 1 in 2); one time unit is one tick $end\n"), "{all}");
+        assert!(all.ends_with("#0\n$dumpvars\n1!\n0\"\nbx #\nb0 $\n$end\n#1\n1\"\nb100001 #\n#2\n"), "{all}");
     }
 
     #[test]

@@ -221,9 +221,18 @@ fn verdict(case: &Case, rules: &Rules) -> (String, Option<&'static str>) {
             let word = [("13", "torn"), ("14", "idle byte"), ("15", "stray"), ("17", "full")].iter().find(|w| w.0 == number).unwrap().1;
             (format!("refused {number} ({word}) at tick {tick}"), Some("refused"))
         }
-        [tick, _, "bad", m] => (format!("bad at tick {tick}: monitor {m} ({})", rules.monitors[m.parse::<usize>().unwrap()]), Some("bad")),
+        [tick, _, "bad", number] => (format!("bad at tick {tick}: {}", named(number.parse().unwrap(), rules)), Some("bad")),
         _ => panic!("{line:?}"),
     }
+}
+
+/// The monitor of a number, or the limit, whose statement is looked up here anew: all of them are in the text in order.
+fn named(number: usize, rules: &Rules) -> String {
+    if number < 32 {
+        return format!("monitor {number} ({})", rules.monitors[number]);
+    }
+    let statement = rules.text.split("limit ").nth(number - 32 + 1).unwrap().split(';').next().unwrap();
+    format!("limit {} ({statement})", number - 32)
 }
 
 fn marks_the_last_tick(elements: &[Element], case: &Case, rules: &Rules, ticks: &Range<usize>) {

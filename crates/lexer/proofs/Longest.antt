@@ -15,7 +15,7 @@ use lib.Seq.{length-take-le}
 use borrow.Author.Tests.{leb-true}
 use Rattle.lexer.specs.Bytes.{bytes, run, lookup, isDigit, isLetter, isNameByte}
 use Rattle.lexer.specs.Signs.{signs}
-use Rattle.lexer.specs.Tokens.{Word, input, internal, define, monitor, past, spelling, Token, name, word, number, sign, end, refused, Placed, entries, orName, taken, valueFrom, firstToken, tokenAt, goesOn}
+use Rattle.lexer.specs.Tokens.{Word, input, internal, define, monitor, past, limit, to, inside, spelling, Token, name, word, number, sign, end, refused, Placed, entries, orName, taken, valueFrom, firstToken, tokenAt, goesOn}
 use Rattle.lexer.proofs.ByteClass.{digit-no-letter}
 use Rattle.lexer.proofs.Bools.{and-left, clash}
 use Rattle.lexer.proofs.Runs.{all, run-on, take-run, all-run, run-longest}
@@ -57,6 +57,9 @@ word-starts internal = refl
 word-starts define = refl
 word-starts monitor = refl
 word-starts past = refl
+word-starts limit = refl
+word-starts to = refl
+word-starts inside = refl
 
 word-bytes : (w : Word) → all isNameByte (bytes (spelling w)) ≡ true
 unfolding isLetter isDigit
@@ -65,6 +68,9 @@ word-bytes internal = refl
 word-bytes define = refl
 word-bytes monitor = refl
 word-bytes past = refl
+word-bytes limit = refl
+word-bytes to = refl
+word-bytes inside = refl
 
 starts-take : (q : ℕ → Bool) (n b : ℕ) (u : List ℕ) → starts q (take n (b ∷ u)) ≡ true → (1 ≤ n) × (q b ≡ true)
 starts-take q zero b u e = absurd (false≢true e)

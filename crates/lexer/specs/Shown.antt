@@ -7,7 +7,7 @@ use lib.ListN.{take, drop}
 use Rattle.refusals.specs.Numbers as refusal
 use Rattle.lexer.specs.Tokens as tokens
 use Rattle.lexer.specs.declared.Word.{Word}
-use Rattle.lexer.specs.declared.Word.the-variants.{Input, Internal, Define, Monitor, Past}
+use Rattle.lexer.specs.declared.Word.the-variants.{Input, Internal, Define, Monitor, Past, Limit, To, In}
 use Rattle.lexer.specs.declared.Reserved.{Reserved}
 use Rattle.lexer.specs.declared.Kind.{Kind}
 use Rattle.lexer.specs.declared.Kind.the-variants as kind
@@ -20,10 +20,17 @@ wordShown Internal = tokens.internal
 wordShown Define = tokens.define
 wordShown Monitor = tokens.monitor
 wordShown Past = tokens.past
+wordShown Limit = tokens.limit
+wordShown To = tokens.to
+wordShown In = tokens.inside
 
 -- T4: a word, if it is reserved, before those of a list
 abbrev pub withWord : Bool → tokens.Word → List tokens.Word → List tokens.Word
 withWord reserved w ws = cond reserved (w ∷ ws) ws
+
+-- the words of a limit among them
+abbrev pub limitWords : Reserved → List tokens.Word
+limitWords r = withWord (r .limit) tokens.limit (withWord (r .to) tokens.to (withWord (r .inside) tokens.inside []))
 
 -- T4: the list that reading is given, as a flag for each word
 abbrev pub reservedShown : Reserved → List tokens.Word
@@ -32,7 +39,7 @@ reservedShown r =
     (withWord (r .internal) tokens.internal
     (withWord (r .define) tokens.define
     (withWord (r .monitor) tokens.monitor
-    (withWord (r .past) tokens.past []))))
+    (withWord (r .past) tokens.past (limitWords r)))))
 
 -- of a token whose bytes are s; T7: "Knot, refusal 2"
 abbrev pub kindShown : List ℕ → Kind → tokens.Token

@@ -12,9 +12,9 @@ use Rattle.refusals.specs.Numbers as refusal
 use Rattle.lexer.specs.Signs.{signs}
 use Rattle.lexer.specs.Bytes.{Entry, _means_, lookup, run, isWhite, isDigit, isLetter, isNameByte}
 
--- T4: "Five words can be reserved: `input`, `internal`, `define`, `monitor` and `past`."
+-- T4: "Eight words can be reserved: `input`, `internal`, `define`, `monitor`, `past`, `limit`, `to` and `in`."
 pub data Word : Type 0 where
-  input internal define monitor past : Word
+  input internal define monitor past limit to inside : Word
 
 -- T4: how each is spelled
 abbrev pub spelling : Word → String
@@ -23,15 +23,18 @@ spelling internal = "internal"
 spelling define = "define"
 spelling monitor = "monitor"
 spelling past = "past"
+spelling limit = "limit"
+spelling to = "to"
+spelling inside = "in"
 
 -- T4: "A list that reading is given says which of them are": the words of a list with their spellings
 abbrev pub entries : List Word → List (Entry Word)
 entries [] = []
 entries (w ∷ ws) = (spelling w means w) ∷ entries ws
 
--- T4: "A rule text reserves all five."
+-- T4: "A rule text reserves all eight."
 abbrev pub ruleWords : List Word
-ruleWords = input ∷ internal ∷ define ∷ monitor ∷ past ∷ []
+ruleWords = input ∷ internal ∷ define ∷ monitor ∷ past ∷ limit ∷ to ∷ inside ∷ []
 
 -- What stands at a place: a token, the end of the text, or a refusal's number (X1).
 pub data Token : Type 0 where

@@ -8,7 +8,7 @@ ghost use lib.ListN.{length, getD, drop};
 ghost use Rattle.lexer.specs.Bytes.{same, lookup, run, isDigit, isNameByte};
 ghost use Rattle.lexer.specs.Classes.{Listed, begins, classOf, inClasses};
 ghost use Rattle.lexer.specs.Tokens.{entries, ruleWords, orName, knot, nameToken, numberToken, signToken, tokenAt};
-ghost use Rattle.lexer.specs.Shown.{reservedShown, kindShown, shown};
+ghost use Rattle.lexer.specs.Shown.{limitWords, reservedShown, kindShown, shown};
 
 mod classes;
 
@@ -63,6 +63,9 @@ pub enum Word {
     Define,
     Monitor,
     Past,
+    Limit,
+    To,
+    In,
 }
 
 // The list of reserved words that reading is given: those whose flag is set.
@@ -72,6 +75,9 @@ pub struct Reserved {
     pub define: bool,
     pub monitor: bool,
     pub past: bool,
+    pub limit: bool,
+    pub to: bool,
+    pub inside: bool,
 }
 
 // What a rule text reserves.
@@ -84,6 +90,9 @@ pub fn rule_words() -> Reserved
         define: true,
         monitor: true,
         past: true,
+        limit: true,
+        to: true,
+        inside: true,
     }
 }
 
@@ -161,6 +170,22 @@ fn is_word(reserved: bool, spelling: &[u8], name: &[u8]) -> bool
     equal(name, spelling)
 }
 
+// Which of the words of a limit the bytes are, or a name.
+fn limit_kind(reserved: Reserved, name: &[u8]) -> Kind
+    ensures { λ r. ⌜ kindShown (now (name .entry)) r ≡ orName (now (name .entry)) (lookup (now (name .entry)) (entries (limitWords reserved))) ⌝ }
+{
+    if is_word(reserved.limit, b"limit", name) {
+        return Kind::Word(Word::Limit);
+    }
+    if is_word(reserved.to, b"to", name) {
+        return Kind::Word(Word::To);
+    }
+    if is_word(reserved.inside, b"in", name) {
+        return Kind::Word(Word::In);
+    }
+    Kind::Name
+}
+
 // Which reserved word the bytes are, or a name.
 fn name_kind(reserved: Reserved, name: &[u8]) -> Kind
     ensures { λ r. ⌜ kindShown (now (name .entry)) r ≡ orName (now (name .entry)) (lookup (now (name .entry)) (entries (reservedShown reserved))) ⌝ }
@@ -180,7 +205,7 @@ fn name_kind(reserved: Reserved, name: &[u8]) -> Kind
     if is_word(reserved.past, b"past", name) {
         return Kind::Word(Word::Past);
     }
-    Kind::Name
+    limit_kind(reserved, name)
 }
 
 // A knot whose first byte is at `place`.

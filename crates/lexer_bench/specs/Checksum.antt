@@ -4,7 +4,7 @@ use mathlib.Core.List.{List, [], _∷_}
 use Prim.Native.Nat.{ℕ, _+_, _%_, _^_}
 use Rattle.lexer.specs.declared.Token as Code
 use Rattle.lexer.specs.Shown.{kindShown}
-use Rattle.lexer.specs.Tokens.{Word, input, internal, define, monitor, past, Token, name, word, number, sign, end, refused, Placed}
+use Rattle.lexer.specs.Tokens.{Word, input, internal, define, monitor, past, limit, to, inside, Token, name, word, number, sign, end, refused, Placed}
 
 abbrev pub wordWeight : Word → ℕ
 wordWeight input = 2
@@ -12,6 +12,9 @@ wordWeight internal = 3
 wordWeight define = 4
 wordWeight monitor = 5
 wordWeight past = 8
+wordWeight limit = 9
+wordWeight to = 10
+wordWeight inside = 11
 
 abbrev pub weight : Token → ℕ
 weight (name s) = 1

@@ -19,6 +19,9 @@ fn weigh_word(w: Word) -> u64
         Word::Define => 4,
         Word::Monitor => 5,
         Word::Past => 8,
+        Word::Limit => 9,
+        Word::To => 10,
+        Word::In => 11,
     }
 }
 

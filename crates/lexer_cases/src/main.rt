@@ -27,6 +27,9 @@ fn print_word(w: Word) {
         Word::Define => print(b"define"),
         Word::Monitor => print(b"monitor"),
         Word::Past => print(b"past"),
+        Word::Limit => print(b"limit"),
+        Word::To => print(b"to"),
+        Word::In => print(b"in"),
     }
 }
 

@@ -1,4 +1,4 @@
--- Calls: each reply is the right one (docs/REFERENCE.md, W3 to W6), no other list of replies is, and the machine of active positions gives the same.
+-- Calls: each reply is the right one (docs/REFERENCE.md, W3 to W6), no other list of replies is, and machines that go alike give the same.
 use mathlib.Core.List.{List, [], _∷_, _++_, append-nil, append-assoc}
 use mathlib.Core.Bool.{Bool, true, false, not, cond, _||_}
 use mathlib.Core.Path.{_≡_, refl, sym, ap, ap₂, _∙_, subst}
@@ -13,8 +13,9 @@ use Rattle.lexer.proofs.Bools.{or-true, or-false}
 use Rattle.meaning.specs.Lists.{any, count, only}
 use Rattle.meaning.specs.Expression.{Exp}
 use Rattle.meaning.specs.ShapeTests.{AllRead}
-use Rattle.meaning.specs.Fit.{Verdict, ok as clean, bad as broken, History, start, onward, history, judged}
-use Rattle.meaning.specs.Positions.{opened, answer, moved, machineReplies}
+use Rattle.meaning.specs.Fit.{Verdict, ok as clean, bad as broken, History, start, onward, history}
+use Rattle.meaning.specs.Names.{Limit}
+use Rattle.meaning.specs.Limits.{judged}
 use Rattle.meaning.specs.Calls.{Call, look, take, wordOf, Reply, ok, bad, refused, replyOf, mostTicks, isFull, isStray, State, opening, reply, after, afterCall, repliesFrom, stateFrom, replies, isOk, isBad, isRefused, taken, takenReplies, judgedWords, Rightly, AllRightly}
 use Rattle.meaning.proofs.ListLaws.{carry-append, clash}
 use Rattle.meaning.proofs.Watch.{AllAccepted, Tracks, opened-tracks, same-verdict, same-move}
@@ -91,7 +92,7 @@ length-snoc (a ∷ xs) (b ∷ ys) x y p = ap suc (length-snoc xs ys x y (omega a
 
 -- ---- the state holds what the sentence asks of the earlier takes ----
 
-module _ (ms : List Exp) (initial : List ℕ) (wires : ℕ) where
+module _ (ls : List Limit) (ms : List Exp) (initial : List ℕ) (wires : ℕ) where
   -- the state after takes of the words ws with the replies rs
   record Kept (ws : List ℕ) (rs : List Reply) (s : State History) : Type 0 where
     pub stopped-is : s .stopped ≡ any isBad rs
@@ -110,7 +111,7 @@ module _ (ms : List Exp) (initial : List ℕ) (wires : ℕ) where
     not-full : (count isOk rs ≡ 1000000 → ⊥) → T (not (isFull (s .oks)))
     not-full h = not-T (isFull (s .oks)) (λ t. h (omega (arith, k .oks-is, k .oks-most, leb→le mostTicks (s .oks) t)))
 
-    rightly : Rightly ms initial wires ws rs w (reply (judged ms) wires s w)
+    rightly : Rightly ls ms initial wires ws rs w (reply (judged ls ms) wires s w)
     unfolding reply
     rightly =
         record {
@@ -126,7 +127,7 @@ module _ (ms : List Exp) (initial : List ℕ) (wires : ℕ) where
           );
           other = λ t h lt.
               chosen-else a b c (replyOf v) (not-stopped t) (not-full h) (not-T c (λ x. omega (arith, leb→le (2 ^ wires) w x)))
-              ∙ ap (λ h. replyOf (judged ms h w)) (k .inner-is t);
+              ∙ ap (λ h. replyOf (judged ls ms h w)) (k .inner-is t);
         }
       where
         a : Bool
@@ -139,12 +140,12 @@ module _ (ms : List Exp) (initial : List ℕ) (wires : ℕ) where
         c = isStray wires w
 
         v : Verdict
-        v = judged ms (s .inner) w
+        v = judged ls ms (s .inner) w
 
-    keep : (r : Reply) → reply (judged ms) wires s w ≡ r → Kept (ws ++ w ∷ []) (rs ++ r ∷ []) (after (onward ms) s w r)
+    keep : (r : Reply) → reply (judged ls ms) wires s w ≡ r → Kept (ws ++ w ∷ []) (rs ++ r ∷ []) (after (onward ms) s w r)
     unfolding reply
     keep ok p =
-        let (t, u, e) = chosen-ok (s .stopped) (isFull (s .oks)) (isStray wires w) (judged ms (s .inner) w) p in
+        let (t, u, e) = chosen-ok (s .stopped) (isFull (s .oks)) (isStray wires w) (judged ls ms (s .inner) w) p in
         record {
           stopped-is = k .stopped-is ∙ sym (any-snoc rs ok ∙ or-false (any isBad rs));
           oks-is = omega (arith, k .oks-is, count-snoc rs ok);
@@ -179,31 +180,31 @@ module _ (ms : List Exp) (initial : List ℕ) (wires : ℕ) where
 
   -- the replies to more calls: a look finds what the takes before it left
   rightly-from : (cs : List Call) (s : State History) (ws : List ℕ) (rs : List Reply) → Kept ws rs s → (n : ℕ) → n < length cs
-      → Rightly ms initial wires (ws ++ taken (upTo n cs)) (rs ++ takenReplies (upTo n cs) (upTo n (repliesFrom (judged ms) (onward ms) wires s cs)))
-      (wordOf (getD cs n (take 0))) (getD (repliesFrom (judged ms) (onward ms) wires s cs) n ok)
+      → Rightly ls ms initial wires (ws ++ taken (upTo n cs)) (rs ++ takenReplies (upTo n cs) (upTo n (repliesFrom (judged ls ms) (onward ms) wires s cs)))
+      (wordOf (getD cs n (take 0))) (getD (repliesFrom (judged ls ms) (onward ms) wires s cs) n ok)
   unfolding repliesFrom
   rightly-from [] s ws rs k n lt = absurd (omega arith)
   rightly-from (c ∷ cs) s ws rs k zero lt = rw (append-nil ws, append-nil rs) (rightly ws rs s k (wordOf c))
   rightly-from (look w ∷ cs) s ws rs k (suc n) lt = rightly-from cs s ws rs k n (omega arith)
   rightly-from (take w ∷ cs) s ws rs k (suc n) lt =
-      rw (← append-assoc ws (w ∷ []) (taken (upTo n cs)), ← append-assoc rs (r ∷ []) (takenReplies (upTo n cs) (upTo n (repliesFrom (judged ms) (onward ms) wires t cs))))
+      rw (← append-assoc ws (w ∷ []) (taken (upTo n cs)), ← append-assoc rs (r ∷ []) (takenReplies (upTo n cs) (upTo n (repliesFrom (judged ls ms) (onward ms) wires t cs))))
       (rightly-from cs t (ws ++ w ∷ []) (rs ++ r ∷ []) (keep ws rs s k w r refl) n (omega arith))
     where
       r : Reply
-      r = reply (judged ms) wires s w
+      r = reply (judged ls ms) wires s w
 
       t : State History
       t = after (onward ms) s w r
 
   -- Every call is answered as W3 to W6 say.
-  pub replies-rightly : (cs : List Call) → AllRightly ms initial wires cs (replies ms initial wires cs)
+  pub replies-rightly : (cs : List Call) → AllRightly ls ms initial wires cs (replies ls ms initial wires cs)
   replies-rightly cs = rightly-from cs (opening (start initial)) [] []
       (record { stopped-is = refl; oks-is = refl; oks-most = omega arith; inner-is = λ t. refl; as-long = refl })
 
 -- ---- and in no other way ----
 
-module _ (ms : List Exp) (initial : List ℕ) (wires : ℕ) where
-  one-reply : (ws : List ℕ) (rs : List Reply) (w : ℕ) (r q : Reply) → Rightly ms initial wires ws rs w r → Rightly ms initial wires ws rs w q → r ≡ q
+module _ (ls : List Limit) (ms : List Exp) (initial : List ℕ) (wires : ℕ) where
+  one-reply : (ws : List ℕ) (rs : List Reply) (w : ℕ) (r q : Reply) → Rightly ls ms initial wires ws rs w r → Rightly ls ms initial wires ws rs w q → r ≡ q
   one-reply ws rs w r q x y = by (any isBad rs) refl
     where
       open-call : T (not (any isBad rs)) → (count isOk rs ≡ 1000000 → ⊥) → r ≡ q
@@ -223,7 +224,7 @@ module _ (ms : List Exp) (initial : List ℕ) (wires : ℕ) where
 
   -- the replies up to each call
   one-way : (cs : List Call) (rs qs : List Reply) → length rs ≡ length cs → length qs ≡ length cs
-      → AllRightly ms initial wires cs rs → AllRightly ms initial wires cs qs → (n : ℕ) → n ≤ length cs → upTo n rs ≡ upTo n qs
+      → AllRightly ls ms initial wires cs rs → AllRightly ls ms initial wires cs qs → (n : ℕ) → n ≤ length cs → upTo n rs ≡ upTo n qs
   one-way cs rs qs a b x y zero le = refl
   one-way cs rs qs a b x y (suc n) le =
       let same : upTo n rs ≡ upTo n qs = one-way cs rs qs a b x y n (omega arith) in
@@ -231,21 +232,21 @@ module _ (ms : List Exp) (initial : List ℕ) (wires : ℕ) where
       take-suc rs n ok (omega arith)
       ∙ ap₂ (λ l r. l ++ r ∷ []) same
       (one-reply (taken (upTo n cs)) (takenReplies (upTo n cs) (upTo n qs)) w _ _
-      (subst (λ l. Rightly ms initial wires (taken (upTo n cs)) (takenReplies (upTo n cs) l) w (getD rs n ok)) same (x n (omega arith))) (y n (omega arith)))
+      (subst (λ l. Rightly ls ms initial wires (taken (upTo n cs)) (takenReplies (upTo n cs) l) w (getD rs n ok)) same (x n (omega arith))) (y n (omega arith)))
       ∙ sym (take-suc qs n ok (omega arith))
 
-  pub length-replies : (s : State History) (cs : List Call) → length (repliesFrom (judged ms) (onward ms) wires s cs) ≡ length cs
+  pub length-replies : (s : State History) (cs : List Call) → length (repliesFrom (judged ls ms) (onward ms) wires s cs) ≡ length cs
   unfolding repliesFrom
   length-replies s [] = refl
-  length-replies s (c ∷ cs) = ap suc (length-replies (afterCall (onward ms) s c (reply (judged ms) wires s (wordOf c))) cs)
+  length-replies s (c ∷ cs) = ap suc (length-replies (afterCall (onward ms) s c (reply (judged ls ms) wires s (wordOf c))) cs)
 
   -- W11: "Text and calls alone fix all answers"
-  pub replies-only : (cs : List Call) (rs : List Reply) → length rs ≡ length cs → AllRightly ms initial wires cs rs → rs ≡ replies ms initial wires cs
+  pub replies-only : (cs : List Call) (rs : List Reply) → length rs ≡ length cs → AllRightly ls ms initial wires cs rs → rs ≡ replies ls ms initial wires cs
   replies-only cs rs p x =
-      let q : length (replies ms initial wires cs) ≡ length cs = length-replies (opening (start initial)) cs in
+      let q : length (replies ls ms initial wires cs) ≡ length cs = length-replies (opening (start initial)) cs in
       sym (take-all (length cs) rs (omega arith))
-      ∙ one-way cs rs (replies ms initial wires cs) p q x (replies-rightly ms initial wires cs) (length cs) (omega arith)
-      ∙ take-all (length cs) (replies ms initial wires cs) (omega arith)
+      ∙ one-way cs rs (replies ls ms initial wires cs) p q x (replies-rightly ls ms initial wires cs) (length cs) (omega arith)
+      ∙ take-all (length cs) (replies ls ms initial wires cs) (omega arith)
 
 -- ---- two that judge alike reply alike ----
 
@@ -286,14 +287,3 @@ module _ {S R : Type 0} (judge : S → ℕ → Verdict) (move : S → ℕ → S)
   same-states (c ∷ cs) x y a =
       subst (λ k. Alike Like (stateFrom judge move wires (afterCall move x c k) cs) (stateFrom judge′ move′ wires (afterCall move′ y c (reply judge′ wires y (wordOf c))) cs))
       (sym (same-reply x y a (wordOf c))) (same-states cs _ _ (call-alike x y a c))
-
--- The machine over monitors that were not turned away replies to each list of calls as their meaning does.
-module _ (ms : List Exp) (read : AllRead ms) (initial : List ℕ) (wires : ℕ) (cs : List Call) where
-  accepted : AllAccepted ms
-  accepted = accept-all ms read
-
-  pub calls-right : machineReplies ms initial wires cs ≡ replies ms initial wires cs
-  calls-right =
-      same-replies (answer ms) (moved ms) (judged ms) (onward ms) (λ v h. Tracks ms h v)
-      (λ v h t w. same-verdict ms accepted h v t w) (λ v h t w p. same-move ms accepted h v t w p) wires
-      cs (opening (opened ms initial)) (opening (start initial)) (opened-tracks ms initial, refl, refl)

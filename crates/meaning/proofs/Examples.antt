@@ -6,7 +6,7 @@ use Prim.Native.Nat.{ℕ, zero, suc}
 use lib.ListN.{length, take}
 use Rattle.lexer.specs.Bytes.{isWhite, isDigit, isLetter, run, same, lookup}
 use Rattle.lexer.specs.Tokens.{nameToken, valueFrom, numberToken, signToken, firstToken, nextToken, tokenAt, tokensFrom, tokensAt}
-use Rattle.meaning.specs.Expression.{Exp, letters, own, size, rows, renumbered, storeTests}
+use Rattle.meaning.specs.Expression.{asProduction, single, Exp, letters, own, size, rows, renumbered, storeTests}
 use Rattle.meaning.specs.Fit.{fits, meets, merge, rounds, runs, occupied, writeMet, onward, history, verdict}
 use Rattle.meaning.specs.Touched.{rounds as around, reach, touched}
 use Rattle.meaning.specs.Shape.{nullable, first, last, follow, threads, parts, meetsWires}
@@ -18,6 +18,7 @@ use Rattle.meaning.specs.Opening.{Opened, counts, countsOf, asOpened, to
 use Rattle.meaning.specs.Calls.{Call, Reply, reply, repliesFrom, replies}
 use Rattle.trace.specs.Record.{digit, number, count, picked, recordOf, differs, changes, written, newByte, merged, idle, readRecord}
 use Rattle.trace.specs.Whole.{writeAll, writeTrace}
+use Rattle.meaning.specs.Limits.{countsAt, countsFrom, keepsFrom, limitsVerdict}
 use Rattle.meaning.specs.Totals.{metFrom}
 use Rattle.meaning.specs.Sheet.{sheet, tickLines, cleanLine, countsLine, refusalLine, metLine, metLines, allMetLines, totalLine, foot, line, decimal, digitsIn, hexadecimal}
 use Rattle.meaning.specs.Examples.{Example, sample, examples, Dialogue, dialogues, Touching, touchings}
@@ -30,12 +31,12 @@ AllHold [] = Unit {0}
 AllHold (x ∷ xs) = Holds x × AllHold xs
 
 pub examples-hold : AllHold examples
-unfolding own occupied choose onName onNumber ifName ifNumber unless byKind known newName notHere atToken isWhite isDigit isLetter run same lookup nameToken valueFrom numberToken signToken firstToken nextToken tokenAt tokensFrom tokensAt letters size rows renumbered meets merge rounds runs writeMet onward verdict nullable first last follow threads agree together unsatisfiable parts nullables openEnds ambiguous shape meetsWires declare storeTests literalName behindOperand behindLiteral step readOn read asOpened tooLong misshapen openProgram openText countsOf reply digit number count picked recordOf differs changes written newByte merged idle readRecord writeAll writeTrace sheet tickLines cleanLine countsLine refusalLine metFrom metLine metLines allMetLines totalLine foot line decimal digitsIn hexadecimal
-examples-hold = (refl, (refl, (refl, (refl, (refl, (refl, (refl, (refl, (refl, (refl, (refl, (refl, (refl, (refl, (refl, (refl, (refl, (refl, (refl, (refl, (refl, (refl, (refl, (refl, (refl, (refl, (refl, (refl, (refl, (refl, (refl, tt)))))))))))))))))))))))))))))))
+unfolding own occupied choose onName onNumber ifName ifNumber unless byKind known newName notHere atToken isWhite isDigit isLetter run same lookup nameToken valueFrom numberToken signToken firstToken nextToken tokenAt tokensFrom tokensAt letters size rows renumbered meets merge rounds runs writeMet onward verdict limitsVerdict keepsFrom countsFrom countsAt nullable first last follow threads agree together unsatisfiable parts nullables openEnds ambiguous shape meetsWires declare asProduction single storeTests literalName behindOperand behindLiteral step readOn read asOpened tooLong misshapen openProgram openText countsOf reply digit number count picked recordOf differs changes written newByte merged idle readRecord writeAll writeTrace sheet tickLines cleanLine countsLine refusalLine metFrom metLine metLines allMetLines totalLine foot line decimal digitsIn hexadecimal
+examples-hold = (refl, (refl, (refl, (refl, (refl, (refl, (refl, (refl, (refl, (refl, (refl, (refl, (refl, (refl, (refl, (refl, (refl, (refl, (refl, (refl, (refl, (refl, (refl, (refl, (refl, (refl, (refl, (refl, (refl, (refl, (refl, (refl, (refl, (refl, (refl, (refl, (refl, (refl, (refl, (refl, tt))))))))))))))))))))))))))))))))))))))))
 
 -- looks and takes on the watch that a text opens, and none on one that it does not
 abbrev repliesTo : Answer Opened → List Call → List Reply
-repliesTo (value o) cs = replies (o .monitors) (o .initial) (o .wires) cs
+repliesTo (value o) cs = replies (o .limits) (o .monitors) (o .initial) (o .wires) cs
 repliesTo (refused number place) cs = []
 
 abbrev AllAnswered : List Dialogue → Type 0
@@ -43,7 +44,7 @@ AllAnswered [] = Unit {0}
 AllAnswered (x ∷ xs) = (repliesTo (openText (x .text)) (x .calls) ≡ x .replies) × AllAnswered xs
 
 pub dialogues-hold : AllAnswered dialogues
-unfolding own occupied choose onName onNumber ifName ifNumber unless byKind known newName notHere atToken isWhite isDigit isLetter run same lookup nameToken valueFrom numberToken signToken firstToken nextToken tokenAt tokensFrom tokensAt letters size rows renumbered meets merge rounds runs writeMet onward verdict nullable first last follow threads agree together unsatisfiable parts nullables openEnds ambiguous shape meetsWires declare storeTests literalName behindOperand behindLiteral step readOn read asOpened tooLong misshapen openProgram openText reply repliesFrom
+unfolding own occupied choose onName onNumber ifName ifNumber unless byKind known newName notHere atToken isWhite isDigit isLetter run same lookup nameToken valueFrom numberToken signToken firstToken nextToken tokenAt tokensFrom tokensAt letters size rows renumbered meets merge rounds runs writeMet onward verdict limitsVerdict keepsFrom countsFrom countsAt nullable first last follow threads agree together unsatisfiable parts nullables openEnds ambiguous shape meetsWires declare asProduction single storeTests literalName behindOperand behindLiteral step readOn read asOpened tooLong misshapen openProgram openText reply repliesFrom
 dialogues-hold = (refl, (refl, tt))
 
 -- the numbers below n
@@ -64,7 +65,7 @@ AllTouched [] = Unit {0}
 AllTouched (x ∷ xs) = (touchedTo (openText (x .text)) (x .words) ≡ x .numbers) × AllTouched xs
 
 pub touchings-hold : AllTouched touchings
-unfolding own occupied choose onName onNumber ifName ifNumber unless byKind known newName notHere atToken isWhite isDigit isLetter run same lookup nameToken valueFrom numberToken signToken firstToken nextToken tokenAt tokensFrom tokensAt letters size rows renumbered meets merge rounds runs writeMet onward verdict nullable first last follow threads agree together unsatisfiable parts nullables openEnds ambiguous shape meetsWires declare storeTests literalName behindOperand behindLiteral step readOn read asOpened tooLong misshapen openProgram openText around reach
+unfolding own occupied choose onName onNumber ifName ifNumber unless byKind known newName notHere atToken isWhite isDigit isLetter run same lookup nameToken valueFrom numberToken signToken firstToken nextToken tokenAt tokensFrom tokensAt letters size rows renumbered meets merge rounds runs writeMet onward verdict limitsVerdict keepsFrom countsFrom countsAt nullable first last follow threads agree together unsatisfiable parts nullables openEnds ambiguous shape meetsWires declare asProduction single storeTests literalName behindOperand behindLiteral step readOn read asOpened tooLong misshapen openProgram openText around reach
 touchings-hold = (refl, (refl, (refl, (refl, (refl, (refl, tt))))))
 
 -- the sample's trace is the one that the customer's specification prints

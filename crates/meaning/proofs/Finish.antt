@@ -16,16 +16,16 @@ use Rattle.lexer.specs.Tokens as token
 use Rattle.lexer.specs.Tokens.{Token, valueFrom, nameToken, numberToken, signToken, firstToken, nextToken, tokenAt, ruleWords}
 use Rattle.lexer.proofs.Every.{every, every-at}
 use Rattle.meaning.specs.Expression.{Literal, Write, Exp, storeTests}
-use Rattle.meaning.specs.Reading.{Level, newLevel, Open, Context, inDefine, inLetter, Expect, statement, sign, nought, closing, inputName, inputMore, inputHigh, storeName, storeMore, storeHigh, storeFirst, defineName, operand, literal, negated, wireMore, bitIndex, wireEquals, storeEquals, pastName, literalMore, writeStore, writeValue, writeMore, operandMore, monitorName, monitorMore, textEnd, isSign, toZero, whole}
-use Rattle.meaning.specs.Names.{aProduction, Names, noNames, Declaration, newInput, newStore, newDefine, newProduction, declare, Program, programOf}
+use Rattle.meaning.specs.Reading.{Level, newLevel, Open, Context, inDefine, inLetter, Expect, statement, sign, keyword, nought, closing, inputName, inputMore, inputHigh, storeName, storeMore, storeHigh, storeFirst, defineName, limitName, limitMost, limitWindow, operand, literal, negated, wireMore, bitIndex, wireEquals, storeEquals, pastName, literalMore, writeStore, writeValue, writeMore, operandMore, monitorName, monitorMore, textEnd, isSign, toZero}
+use Rattle.meaning.specs.Names.{aProduction, Names, noNames, Declaration, newInput, newStore, newDefine, newLimit, declare, Program, programOf}
 use Rattle.meaning.specs.Grammar
 use Rattle.meaning.specs.Grammar.{Stands, IsText}
-use Rattle.meaning.specs.Viable.{Spelled, AllSpelled, HasProduction, HasLiteral, Room, Ends, EndsIn, Spare}
-use Rattle.meaning.proofs.Outcomes.{is-token, LiteralNext, more-literals, first-literal, literals, BehindOperand, operands, letters, first-write, BySign, expected, closed, narrow-input, narrow-store, defined, compared, index, written, level-closed, produced, all-monitors, ByNumber, zero-read, input-width, store-width, first-value, bit-index, wire-value, store-value, number-written, ByName, new-input, new-store, new-define, new-production, of-wire, of-store, of-define, of-production, of-negated, store-written, monitored, Next, by-sign, by-number, by-name, by-word, same-wire, ByWord, begins-input, begins-monitor}
+use Rattle.meaning.specs.Viable.{Spelled, AllSpelled, HasLiteral, Room, Ends, namesOf, EndsIn, Spare}
+use Rattle.meaning.proofs.Outcomes.{is-token, LiteralNext, more-literals, first-literal, literals, BehindOperand, operands, letters, first-write, BySign, expected, closed, narrow-input, narrow-store, defined, compared, index, written, level-closed, produced, all-monitors, ByNumber, zero-read, input-width, store-width, first-value, limit-most, limit-window, bit-index, wire-value, store-value, number-written, ByName, new-input, new-store, new-define, new-production, limited, of-wire, of-store, of-define, of-production, of-negated, store-written, monitored, Next, by-sign, by-number, by-name, by-word, same-wire, ByWord, expected-word, begins-input, begins-monitor}
 use Rattle.meaning.proofs.GrammarDerives.{Derived, next-derived}
 use Rattle.meaning.proofs.FreeName.{New, new-name}
 use Rattle.meaning.proofs.Sound
-use Rattle.meaning.proofs.Sound.{one-more, stands-itself, stands-on, Root, NamesSound, DeclarationSound, root, declare-sound, OpenSound, ContextSound, LiteralsSound, ExpectSound}
+use Rattle.meaning.proofs.Sound.{gives-input, gives-production, names-more, stands-itself, Root, NamesSound, DeclarationSound, NoProduction, still-stands, root, declare-sound, OpenSound, ContextSound, LiteralsSound, ExpectSound}
 
 -- Tokens that lead from x to the end of a text, each of which a text can have. Their places do not matter: 0.
 pub data Finish : Names → Expect → Type 0 where
@@ -41,7 +41,7 @@ pub finished : (T : List Token) {ns : Names} {x : Expect} (f : Finish ns x) → 
 finished T (ends {ns} {ms}) (vs, from, x, few) = (programOf ns ms, from (programOf ns ms) (Grammar.monitors x few))
 finished T (then {ns} t n f) d = finished T f (next-derived T ns (tokensOf f) n d)
 
--- ---- tokens that a text can have: signs, 0, words and the end, by computation
+-- ---- tokens that a text can have: signs, two numbers, words and the end, by computation
 
 abbrev spellingOf : ℕ → List ℕ
 spellingOf k = getD (map (λ e. e .spelling) signs) k []
@@ -57,6 +57,10 @@ zero-spelled : Spelled (token.number 0)
 unfolding tokenAt nextToken firstToken numberToken valueFrom run same lookup isWhite isDigit isLetter
 zero-spelled = (bytes "0", 0, refl)
 
+most-spelled : Spelled (token.number 1024)
+unfolding tokenAt nextToken firstToken numberToken valueFrom run same lookup isWhite isDigit isLetter
+most-spelled = (bytes "1024", 0, refl)
+
 word-spelled : (w : token.Word) → Spelled (token.word w)
 unfolding tokenAt nextToken firstToken nameToken run same lookup isWhite isDigit isLetter
 word-spelled token.input = (bytes "input", 0, refl)
@@ -64,6 +68,9 @@ word-spelled token.internal = (bytes "internal", 0, refl)
 word-spelled token.define = (bytes "define", 0, refl)
 word-spelled token.monitor = (bytes "monitor", 0, refl)
 word-spelled token.past = (bytes "past", 0, refl)
+word-spelled token.limit = (bytes "limit", 0, refl)
+word-spelled token.to = (bytes "to", 0, refl)
+word-spelled token.inside = (bytes "in", 0, refl)
 
 end-spelled : Spelled token.end
 unfolding tokenAt nextToken firstToken run
@@ -85,7 +92,7 @@ module _ {ns : Names} {x y : Expect} where
   sign-then : {k : ℕ} {ms : Names} → ltb k 18 ≡ true → BySign ns k x ms y → Finish ms y → Finish ns x
   sign-then {k} h n f = then (sign-spelled k h) (by-sign n) f
 
-word-then : {ns : Names} {w : token.Word} {x y : Expect} → ByWord w x y → Finish ns y → Finish ns x
+word-then : {ns : Names} {w : token.Word} {x y : Expect} → ByWord ns w x y → Finish ns y → Finish ns x
 word-then {w} n f = then (word-spelled w) (by-word n) f
 
 -- ---- from a statement on
@@ -96,8 +103,8 @@ monitor-ends s e t h = word-then begins-monitor (name-then t (monitored h (omega
 
 -- behind an operand: a `)` for each level, and `;`; the production is the monitor
 operand-ends : {ns : Names} (ls : List Level) {x : Expect} {o : Open} {e : Exp} {b : Bool} → OpenSound o → BehindOperand x o e b → o .outer ≡ ls → Finish ns x
-operand-ends {ns} [] {o} {e} t n h =
-    sign-then refl (produced n h) (monitor-ends (o .name) (whole (o .level) e) t (stands-itself ns (newProduction (o .name) (whole (o .level) e))))
+operand-ends {ns} [] {o} t n h =
+    sign-then refl (produced n h) (monitor-ends (o .name) _ t (stands-itself ns gives-production))
 operand-ends (l ∷ ls) t n h = sign-then refl (level-closed n h) (operand-ends ls t operands refl)
 
 module _ (ns : Names) (names : NamesSound ns) where
@@ -133,31 +140,34 @@ statement-ends ns names (inr h) = by (names .rooted) (new-name ns h)
     by (inl e) (s, f) =
         let d : Declaration = newInput s 1 in
         let w : ns .wires < 64 = omega (arith, ap (λ (k : Names). k .wires) e) in
-        let l : Room 1 (declare d ns) = omega (arith, one-more ns d, ap (λ (k : Names). length (k .declared)) e) in
+        let l : Room 1 (declare d ns) = omega (arith, names-more ns d, ap (λ (k : Names). length (k .declared)) e) in
         word-then begins-input (name-then (f .1) (new-input (f .0) w) (sign-then refl narrow-input
-        (production-ends (declare d ns) (declare-sound ns names d (f, omega arith)) (Sound.an-input (s, ns .wires, 1, stands-itself ns d)) l)))
+        (production-ends (declare d ns) (declare-sound ns names d (f, omega arith)) (Sound.an-input (s, ns .wires, 1, stands-itself ns gives-input)) l)))
     by (inr r) f = production-ends ns names r h
 
 -- ---- from whatever is expected on
 
 module _ (ns : Names) (names : NamesSound ns) where
   -- behind a declaration
-  ends-behind : (d : Declaration) → DeclarationSound ns d → Ends 1 ns → Ends 0 (declare d ns)
-  ends-behind d g (inr h) = inr (omega (arith, one-more ns d))
-  ends-behind d g (inl (r, e, k)) = inl (by d g)
-    where
-      by : (d : Declaration) → DeclarationSound ns d → HasProduction (declare d ns)
-      by (newInput s w) (f, h) = (r, e, stands-on ns (newInput s w) r _ (f .0) k)
-      by (newStore s w v) f = (r, e, stands-on ns (newStore s w v) r _ (f .0) k)
-      by (newDefine s ls) (f, h) = (r, e, stands-on ns (newDefine s ls) r _ (f .0) k)
-      by (newProduction s x) h = (s, x, stands-itself ns (newProduction s x))
+  ends-behind : (d : Declaration) → DeclarationSound ns d → NoProduction d → Ends (namesOf d) ns → Ends 0 (declare d ns)
+  ends-behind d g n (inr h) = inr (omega (arith, names-more ns d))
+  ends-behind d g n (inl (r, e, k)) = inl (r, e, still-stands ns d g n r _ k)
 
-  declared-ends : (d : Declaration) → DeclarationSound ns d → Ends 1 ns → Finish (declare d ns) statement
-  declared-ends d g h = statement-ends (declare d ns) (declare-sound ns names d g) (ends-behind d g h)
+  declared-ends : (d : Declaration) → DeclarationSound ns d → NoProduction d → Ends (namesOf d) ns → Finish (declare d ns) statement
+  declared-ends d g n h = statement-ends (declare d ns) (declare-sound ns names d g) (ends-behind d g n h)
+
+  -- `1024;`, longer than any n
+  window-ends : (p n : ℕ) → Root ns → n ≤ 1023 → Ends 0 ns → Finish ns (limitWindow p n)
+  window-ends p n r k h =
+      then most-spelled (by-number (limit-window {n = n} {w = 1024} (omega arith) (omega arith))) (sign-then refl closed (declared-ends (newLimit p n 1024) r tt h))
+
+  -- `0 in 1024;`
+  most-ends : (p : ℕ) → Root ns → Ends 0 ns → Finish ns (limitMost p)
+  most-ends p r h = zero-then (limit-most (omega arith)) (word-then expected-word (window-ends p 0 r (omega arith) h))
 
   -- behind literals
   literals-end : (c : Context) (ls : List Literal) → LiteralsSound ns c → EndsIn ns c → Finish ns (literalMore c ls)
-  literals-end (inDefine s) ls g h = sign-then refl (defined literals) (declared-ends (newDefine s ls) g h)
+  literals-end (inDefine s) ls g h = sign-then refl (defined literals) (declared-ends (newDefine s ls) g tt h)
   literals-end (inLetter o) ls (t, r) h = letter-ends ns names o ls t
 
   -- a name that can be a literal stands
@@ -186,26 +196,31 @@ module _ (ns : Names) (names : NamesSound ns) where
   zero-ends f = sign-then refl expected (zero-then zero-read (sign-then refl expected f))
 
   first-ends : (s : List ℕ) (w : ℕ) → New ns s → Ends 1 ns → Finish ns (storeFirst s w)
-  first-ends s w f h = zero-then (first-value (pow-pos w)) (sign-then refl closed (declared-ends (newStore s w 0) f h))
+  first-ends s w f h = zero-then (first-value (pow-pos w)) (sign-then refl closed (declared-ends (newStore s w 0) f tt h))
 
   -- Where names and limits are not in the way, a text can be ended.
   pub finish : (x : Expect) → ExpectSound ns x → Spare ns x → Finish ns x
   finish statement g h = statement-ends ns names h
   finish (sign k x) (t, g) h = sign-then t expected (finish x g h)
+  finish (keyword w x) g h = word-then expected-word (finish x g h)
   finish (nought x) g h = zero-then zero-read (finish x g h)
-  finish (closing d) (g, k) h = sign-then refl closed (declared-ends d g h)
+  finish (closing d) (g, k) h = sign-then refl closed (declared-ends d g k h)
   finish inputName g (r, w, h) =
       let (s, f) = new-name ns r in
-      name-then (f .1) (new-input (f .0) w) (sign-then refl narrow-input (declared-ends (newInput s 1) (f, omega arith) h))
-  finish (inputMore s) (f, w) h = sign-then refl narrow-input (declared-ends (newInput s 1) (f, omega arith) h)
+      name-then (f .1) (new-input (f .0) w) (sign-then refl narrow-input (declared-ends (newInput s 1) (f, omega arith) tt h))
+  finish (inputMore s) (f, w) h = sign-then refl narrow-input (declared-ends (newInput s 1) (f, omega arith) tt h)
   finish (inputHigh s) (f, w) h =
       let k : ns .wires + 1 ≤ 64 = omega arith in
-      zero-then (input-width {h = 0} (omega arith) k) (zero-ends (sign-then refl closed (declared-ends (newInput s 1) (f, omega arith) h)))
+      zero-then (input-width {h = 0} (omega arith) k) (zero-ends (sign-then refl closed (declared-ends (newInput s 1) (f, omega arith) tt h)))
   finish storeName g (r, k, h) = let (s, f) = new-name ns r in name-then (f .1) (new-store (f .0) k) (sign-then refl narrow-store (first-ends s 1 f h))
   finish (storeMore s) f h = sign-then refl narrow-store (first-ends s 1 f h)
   finish (storeHigh s) f h = zero-then (store-width {h = 0} (omega arith)) (zero-ends (sign-then refl expected (first-ends s 1 f h)))
   finish (storeFirst s w) f h = first-ends s w f h
   finish defineName g (r, l, h) = let (s, f) = new-name ns r in name-then (f .1) (new-define (f .0)) (sign-then refl expected (next-ends f l h))
+  finish limitName g (s, e, p, h, k) =
+      name-then (names .spelled s _ h) (limited h k) (word-then expected-word (most-ends p (root ns names s _ h) (inl (s, e, h))))
+  finish (limitMost p) r h = most-ends p r h
+  finish (limitWindow p n) r (k, h) = window-ends p n r k h
   finish (operand o) t (inl l) = literal-ends ns names first-literal l (λ ks. letter-ends ns names o ks t)
   finish (operand o) t (inr (s, e, h)) = name-then (names .spelled s _ h) (of-production h) (operand-ends (o .outer) t operands refl)
   finish (literal c ls) g (l, h) = next-ends g l h

@@ -2,7 +2,7 @@
 use mathlib.Core.Path.{_≡_, refl, sym, subst}
 use mathlib.Core.Bool.{Bool, false}
 use mathlib.Core.List.{List, [], _∷_, _++_}
-use mathlib.Core.Option.{none}
+use mathlib.Core.Option.{none, some}
 use Prim.Native.Nat.{ℕ, suc, _+_, _-_, _≤_, _<_}
 use native.Mathlib.Omega.{arith}
 use lib.ListN.{length, length-append}
@@ -10,15 +10,15 @@ use borrow.Author.Tests.{ltb-false}
 use Rattle.lexer.specs.Tokens as token
 use Rattle.lexer.specs.Tokens.{Token, Placed}
 use Rattle.meaning.specs.Names.{newInput, newProduction, anInput, aStore, aProduction, Names, noNames, declare, Program, programOf}
-use Rattle.meaning.specs.Expression.{Literal, wire, wire-store, wire-past, store, Write, from-wire, from-number, Exp, seq, alt, pipe, storeTests}
+use Rattle.meaning.specs.Expression.{Literal, wire, wire-store, wire-past, store, Write, from-wire, from-number, Exp, seq, alt, pipe, storeTests, single}
 use Rattle.meaning.specs.Answers.{Answer, value}
 use Rattle.lexer.specs.Signs
 use Rattle.meaning.specs.Reading
-use Rattle.meaning.specs.Reading.{Level, newLevel, Open, Context, inDefine, inLetter, Expect, statement, sign, nought, closing, inputName, inputMore, inputHigh, storeName, storeMore, storeHigh, storeFirst, defineName, operand, literal, negated, wireMore, bitIndex, wireEquals, storeEquals, pastName, literalMore, writeStore, writeValue, writeMore, operandMore, monitorName, monitorMore, textEnd, Step, andThen, readOn, tooMany, join, whole}
+use Rattle.meaning.specs.Reading.{Level, newLevel, Open, Context, inDefine, inLetter, Expect, statement, sign, keyword, nought, closing, inputName, inputMore, inputHigh, storeName, storeMore, storeHigh, storeFirst, defineName, limitName, limitMost, limitWindow, operand, literal, negated, wireMore, bitIndex, wireEquals, storeEquals, pastName, literalMore, writeStore, writeValue, writeMore, operandMore, monitorName, monitorMore, textEnd, Step, andThen, readOn, tooMany, join, whole}
 use Rattle.meaning.specs.Grammar
 use Rattle.meaning.specs.Grammar.{Stands, Free, IsBit, IsLiteral, IsLiterals, IsWrite, IsWrites, IsAtom, IsStarred, IsPiped, IsSequence, IsAlternative, IsWidth, IsMonitors, IsText, plainTokens}
 use Rattle.meaning.proofs.ListLaws.{clash}
-use Rattle.meaning.proofs.Outcomes.{LiteralNext, more-literals, first-literal, BehindLiterals, literals, one-wire, BehindOperand, operands, letters, WriteNext, first-write, more-writes, BySign, expected, closed, narrow-input, wide-input, narrow-store, wide-store, opened, negation, index, compared, joined, defined, writing, written, starred, piped, followed, or-else, level-closed, produced, more-monitors, all-monitors, ByNumber, zero-read, input-width, store-width, first-value, bit-index, wire-value, store-value, number-written, ByName, new-input, new-store, new-define, new-production, of-wire, of-store, of-define, of-production, of-negated, equal-store, store-written, wire-written, monitored, same-wire, ByWord, begins-input, begins-store, begins-define, begins-monitor, compared-past, Next, by-sign, by-number, by-name, by-word, Outcome, refusal, late, ended, goes, outcome}
+use Rattle.meaning.proofs.Outcomes.{LiteralNext, more-literals, first-literal, BehindLiterals, literals, one-wire, BehindOperand, operands, letters, WriteNext, first-write, more-writes, BySign, expected, closed, narrow-input, wide-input, narrow-store, wide-store, opened, negation, index, compared, joined, defined, writing, written, starred, piped, followed, or-else, level-closed, produced, more-monitors, all-monitors, ByNumber, zero-read, input-width, store-width, first-value, limit-most, limit-window, bit-index, wire-value, store-value, number-written, ByName, new-input, new-store, new-define, new-production, limited, of-wire, of-store, of-define, of-production, of-negated, equal-store, store-written, wire-written, monitored, same-wire, ByWord, expected-word, begins-input, begins-store, begins-define, begins-limit, begins-monitor, compared-past, Next, by-sign, by-number, by-name, by-word, Outcome, refusal, late, ended, goes, outcome}
 use Rattle.meaning.proofs.Within.{count-append}
 use Rattle.meaning.proofs.GrammarReads.{Fits}
 
@@ -116,10 +116,17 @@ module _ (T : List Token) where
   abbrev WriteAt : Names → Open → List Literal → List Write → List Token → Type 0
   WriteAt ns o ls ws ts = (w : Write) (us : List Token) → IsWrite ns ts us w → length ws < 2 → WritesAt ns o ls (ws ++ (w ∷ [])) us
 
+  -- ts stands behind `limit N to`, where N is the production with the number k, a single letter
+  abbrev LimitAt : Names → ℕ → List Token → Type 0
+  LimitAt ns k ts =
+      (s : List ℕ) × (e : Exp) × (length (ns .limits) < 8) × Stands ns s (aProduction e) × (single e ≡ some k)
+      × From ns (token.word token.limit ∷ token.name s ∷ token.word token.to ∷ ts)
+
   -- the tokens before ts are what makes reading expect x
   abbrev pub Derived : Names → Expect → List Token → Type 0
   Derived ns statement ts = From ns ts
   Derived ns (sign k x) ts = (us : List Token) → ts ≡ token.sign k ∷ us → Derived ns x us
+  Derived ns (keyword w x) ts = (us : List Token) → ts ≡ token.word w ∷ us → Derived ns x us
   Derived ns (nought x) ts = (us : List Token) → ts ≡ token.number 0 ∷ us → Derived ns x us
   Derived ns (closing d) ts = (us : List Token) → ts ≡ token.sign Signs.semicolon ∷ us → From (declare d ns) us
   Derived ns inputName ts = From ns (token.word token.input ∷ ts)
@@ -132,6 +139,9 @@ module _ (T : List Token) where
   Derived ns (storeFirst s w) ts =
       (vs : List Token) × Free ns s × (length (ns .initial) < 16) × From ns (token.word token.internal ∷ token.name s ∷ vs) × IsWidth vs (token.sign Signs.equals ∷ ts) w
   Derived ns defineName ts = From ns (token.word token.define ∷ ts)
+  Derived ns limitName ts = (length (ns .limits) < 8) × From ns (token.word token.limit ∷ ts)
+  Derived ns (limitMost k) ts = LimitAt ns k ts
+  Derived ns (limitWindow k n) ts = (n ≤ 1023) × LimitAt ns k (token.number n ∷ token.word token.inside ∷ ts)
   Derived ns (operand o) ts = OperandAt ns o ts
   Derived ns (literal c ls) ts = LiteralAt ns c ls ts
   Derived ns (negated c ls) ts = BitAt ns c ls 0 ts
@@ -251,6 +261,9 @@ module _ (T : List Token) where
         (token.sign Signs.leftBracket ∷ token.number h ∷ us, free, k, from, rw (z, y) (Grammar.field-of l)))
     number-derived (first-value {v} {w} l) (vs, free, k, from, x) = λ ws z p r.
         from p (Grammar.declares (Grammar.a-store free k (subst (λ r. IsWidth vs (token.sign Signs.equals ∷ token.number v ∷ r) w) z x) l) r)
+    number-derived (limit-most {p} {n} h) d = λ vs z. (h, subst (λ r. LimitAt ns p (token.number n ∷ r)) z d)
+    number-derived (limit-window {n} {w} l m) (k, (s, e, few, h, g, from)) = λ vs z p r.
+        from p (rw z (Grammar.declares (Grammar.a-limit few h g k l m) r))
     number-derived (bit-index {i} {lo} h) (s, e, f) = λ vs z. f (lo + i) vs (rw z (Grammar.indexed e h))
     number-derived (wire-value {c} {ls} {lo} {w} {v} h) (e, lit) =
         lit .1 (wire lo w v ∷ []) us (Grammar.wire-equals-number e h) (fits-untested c ls (wire lo w v) refl (lit .0))
@@ -264,6 +277,7 @@ module _ (T : List Token) where
     name-derived (new-store free h) d = (free, h, d)
     name-derived {n} (new-define free) d = λ vs z. begin-literals (inDefine n) vs (free, subst (λ r. From ns (token.word token.define ∷ token.name n ∷ r)) z d)
     name-derived {n} (new-production free) d = λ vs z. (new-level vs, (free, subst (λ r. From ns (token.name n ∷ r)) z d))
+    name-derived {n} (limited {e} h g) (few, from) = λ vs z. (n, e, few, h, g, subst (λ r. From ns (token.word token.limit ∷ token.name n ∷ r)) z from)
     name-derived {n} (of-wire {c} {ls} g e) d = (e, bits c ls (token.name n ∷ us) (literal-at g _ d), λ k. literal-at g _ d)
     name-derived {n} (of-store {c} {ls} g e k) d = λ ws z. (n, e, k, subst (λ r. LiteralAt ns c ls (token.name n ∷ r)) z (literal-at g _ d))
     name-derived (of-define {c} {ls} {ds} g e k) d = literal-at g _ d .1 ds us (Grammar.defined e) (fits-after c ls ds k)
@@ -279,10 +293,12 @@ module _ (T : List Token) where
         λ vs z. f (from-wire i lo m) vs (rw z (Grammar.write-wire y g)) l
     name-derived {n} (monitored {ms} {e} k l) (vs, from, f) = (vs, from, f n e us refl k, omega (arith, length-append ms (e ∷ [])))
 
-    word-derived : {w : token.Word} {x y : Expect} → ByWord w x y → Derived ns x (token.word w ∷ us) → Derived ns y us
+    word-derived : {w : token.Word} {x y : Expect} → ByWord ns w x y → Derived ns x (token.word w ∷ us) → Derived ns y us
+    word-derived expected-word d = d us refl
     word-derived begins-input d = d
     word-derived begins-store d = d
     word-derived begins-define d = d
+    word-derived (begins-limit few) d = (few, d)
     word-derived begins-monitor d = (us, d, λ s e vs z h. rw z (Grammar.one-monitor h))
     word-derived (compared-past {c} {ls} {s}) (e, lit) = λ vs z.
         (e, subst (λ r. LiteralAt ns c ls (token.name s ∷ token.sign Signs.doubleEquals ∷ token.word token.past ∷ r)) z lit)

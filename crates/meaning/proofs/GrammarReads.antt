@@ -11,13 +11,13 @@ use Rattle.lexer.specs.Bytes.{lookup}
 use Rattle.lexer.specs.Tokens as token
 use Rattle.lexer.proofs.Spelling.{same-refl}
 use Rattle.lexer.specs.Tokens.{Token, Placed}
-use Rattle.meaning.specs.Names.{newInput, newStore, Meaning, anInput, aStore, aDefine, aProduction, Names, Declaration, declare, Program}
+use Rattle.meaning.specs.Names.{newInput, newStore, newLimit, Meaning, anInput, aStore, aDefine, aProduction, Names, Declaration, declare, Program, programOf}
 use Rattle.meaning.specs.Expression.{Literal, wire, wire-store, store, Write, Exp, seq, alt, pipe, storeTests, aLetter}
 use Rattle.meaning.specs.Answers.{Answer, value}
 use Rattle.refusals.specs.Numbers.{unknown}
 use Rattle.lexer.specs.Signs
 use Rattle.meaning.specs.Reading
-use Rattle.meaning.specs.Reading.{Level, Open, Context, inDefine, inLetter, Expect, statement, sign, nought, closing, inputName, inputMore, inputHigh, storeName, storeMore, storeHigh, storeFirst, defineName, operand, literal, negated, wireMore, bitIndex, wireEquals, storeEquals, pastName, literalMore, writeStore, writeValue, writeMore, operandMore, monitorName, monitorMore, textEnd, Step, go, fault, choose, atToken, notHere, unless, ifName, ifNumber, onName, onNumber, byKind, known, newName, step, readOn, behindOperand, behindLiteral, literalName, tooMany, join}
+use Rattle.meaning.specs.Reading.{Level, Open, Context, inDefine, inLetter, Expect, statement, sign, keyword, nought, closing, inputName, inputMore, inputHigh, storeName, storeMore, storeHigh, storeFirst, defineName, limitName, limitMost, limitWindow, operand, literal, negated, wireMore, bitIndex, wireEquals, storeEquals, pastName, literalMore, writeStore, writeValue, writeMore, operandMore, monitorName, monitorMore, textEnd, Step, go, fault, choose, atToken, notHere, unless, ifName, ifNumber, onName, onNumber, byKind, known, newName, step, readOn, behindOperand, behindLiteral, literalName, tooMany, join}
 use Rattle.meaning.specs.Grammar
 use Rattle.meaning.specs.Grammar.{Stands, IsBit, IsLiteral, IsLiterals, IsWrite, IsWrites, IsLetter, IsAtom, IsStarred, IsPiped, IsSequence, IsAlternative, IsWidth, IsDeclaration, IsMonitors, IsText, plainTokens}
 use Rattle.meaning.proofs.ListLaws.{clash}
@@ -55,6 +55,11 @@ module _ {p : Program} where
   signed : {ns : Names} {k : ℕ} {x : Expect} {ts : List Token} → Reads p ns x ts → Reads p ns (sign k x) (token.sign k ∷ ts)
   unfolding step choose
   signed {k} {x} r = then (sign k x) r (λ a b. rw (eq-eqb k k refl))
+
+  -- the word
+  worded : {ns : Names} {w : token.Word} {x : Expect} {ts : List Token} → Reads p ns x ts → Reads p ns (keyword w x) (token.word w ∷ ts)
+  unfolding step choose
+  worded {w} {x} r = then (keyword w x) r (λ a b. rw (eq-eqb (Reading.ordinal w) (Reading.ordinal w) refl))
 
 -- ---- expecting more: where one state goes on, another goes on in the same way
 
@@ -344,7 +349,7 @@ module _ {p : Program} {ns : Names} where
       then (storeMore s) (to-zero-reads (storeHigh s) (sign Signs.equals (storeFirst s (suc n))) (signed r) (λ a b. rw (le-ltb 63 n k))) (λ a b. refl)
 
   declaration-reads : {d : Declaration} {ts us : List Token} → IsDeclaration ns ts us d → Reads p (declare d ns) statement us → Reads p ns statement ts
-  unfolding step choose newName onName ifName onNumber ifNumber unless behindLiteral behindOperand
+  unfolding step choose newName known byKind onName ifName onNumber ifNumber unless behindLiteral behindOperand
   declaration-reads (Grammar.an-input {s} {width} (e, h) w k) r =
       then statement
       (then inputName (input-reads s w k r) (λ a b. rw (e, lt-leb 64 (ns .wires) (wires-left w k), lt-leb 128 (length (ns .declared)) h)))
@@ -368,6 +373,14 @@ module _ {p : Program} {ns : Names} where
       then statement
       (signed (alternative-reads x s [] refl (λ a b c f q. closes _ (operandMore (opened s [] a b c) f true) r (λ i j. rw q))))
       (λ a b. rw (e, lt-leb 128 (length (ns .declared)) h))
+  declaration-reads (Grammar.a-limit {p = i} {n} {w} few e h k l m) r =
+      then statement
+      (then limitName
+      (worded (then (limitMost i)
+      (worded (then (limitWindow i n) (closes _ (closing (newLimit i n w)) r (λ a b. refl)) (λ a b. rw (lt-leb w n l, le-ltb 1024 w m))))
+      (λ a b. rw (le-ltb 1023 n k))))
+      (λ a b. rw (e, h)))
+      (λ a b. rw (lt-leb 8 (length (ns .limits)) few))
 
   monitors-reads : {ms : List Exp} {ts us : List Token} → IsMonitors ns ts us ms → length ms ≤ 32 → Reads p ns (monitorMore ms) us → Reads p ns (monitorName []) ts
   unfolding step choose known onName ifName byKind unless
@@ -377,11 +390,11 @@ module _ {p : Program} {ns : Names} where
       monitors-reads k (omega arith)
       (then (monitorMore ms) (then (monitorName ms) r (λ a b. rw (g, lt-leb 32 (length ms) l))) (λ a b. refl))
 
-end-reads : (ns : Names) (ms : List Exp) → Reads (record { wires = ns .wires; initial = ns .initial; monitors = ms }) ns (textEnd ms) (token.end ∷ [])
+end-reads : (ns : Names) (ms : List Exp) → Reads (programOf ns ms) ns (textEnd ms) (token.end ∷ [])
 unfolding readOn step
 end-reads ns ms = record { run = at }
   where
-    at : (ps : List Placed) → plainTokens ps ≡ token.end ∷ [] → readOn ns (textEnd ms) ps ≡ value (record { wires = ns .wires; initial = ns .initial; monitors = ms })
+    at : (ps : List Placed) → plainTokens ps ≡ token.end ∷ [] → readOn ns (textEnd ms) ps ≡ value (programOf ns ms)
     at [] e = clash (cc)
     at (q ∷ qs) e = let h : q .token ≡ token.end = cc in rw h
 

@@ -99,3 +99,7 @@ pub mod TouchedCount
 pub mod Spent
 -- how often letters were met: one tick more, and the same sum over letters and over ticks
 pub mod Totals
+-- where the words so far fit every limit, the next tick alone decides (`limits-next`)
+pub mod Limits
+-- a text has at most 32 monitors and 8 limits, each limit of a stretch longer than its number of ticks
+pub mod Bounded

@@ -40,7 +40,7 @@ renumbered-ordered k (pipe e f) = (renumbered-ordered k e, right-ordered k e (re
 -- what is numbered in reading order stays as it is
 pub ordered-renumbered : (k : ℕ) (e : Exp) → Ordered k e → renumbered k e ≡ e
 unfolding renumbered
-ordered-renumbered k (letter l) o = ap (λ n. letter (record { number = n; literals = l .literals; writes = l .writes })) (sym o)
+ordered-renumbered k (letter l) o = ap (λ n. letter (record { number = n; literals = l .literals; writes = l .writes; through = l .through })) (sym o)
 ordered-renumbered k (seq e f) (o, u) = ap₂ seq (ordered-renumbered k e o) (ordered-renumbered (k + size e) f u)
 ordered-renumbered k (alt e f) (o, u) = ap₂ alt (ordered-renumbered k e o) (ordered-renumbered (k + size e) f u)
 ordered-renumbered k (star e) o = ap star (ordered-renumbered k e o)

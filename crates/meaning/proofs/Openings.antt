@@ -22,16 +22,14 @@ use Rattle.meaning.specs.Names.{Program}
 use Rattle.meaning.specs.Opening
 use Rattle.meaning.specs.Opening.{Opened, asOpened, tooLong, misshapen, openProgram, openText}
 use Rattle.meaning.specs.Table.{HoldsAll, laidAll, asTable}
-use Rattle.meaning.specs.Calls.{Call, replies}
-use Rattle.meaning.specs.Positions.{machineReplies}
 use Rattle.meaning.proofs.ListLaws.{clash, cons-∈, no-∈, one-∈, map-∈, append-∈}
 use Rattle.meaning.proofs.Numbering.{renumbered-size, renumbered-rows, renumbered-ordered}
 use Rattle.meaning.proofs.Rows.{rows-no-more, program-held}
 use Rattle.meaning.proofs.RowCount.{rows-below-1024, total-renumbered}
 use Rattle.meaning.proofs.Monitor as one
+use Rattle.meaning.proofs.Bounded.{Few, few-limits}
 use Rattle.meaning.proofs.Accept.{accept}
 use Rattle.meaning.proofs.Rules.{unsatisfiable-at, ambiguous-at}
-use Rattle.meaning.proofs.Calls.{calls-right}
 use Rattle.meaning.proofs.Within.{Each, Within, LetterWithin, ExpWithin, read-within}
 
 -- ---- accepted: nothing was wrong
@@ -123,6 +121,11 @@ module _ (text : List ℕ) (o : Opened) (e : openText text ≡ value o) where
   unfolding asOpened
   numbered = sym (ap (λ z. z .monitors) (a .opens))
 
+  -- its limits are those of the program, and few
+  pub limits-few : Few (o .limits)
+  unfolding asOpened
+  limits-few = subst Few (ap (λ z. z .limits) (a .opens)) (few-limits text (a .program) (a .reads))
+
   pub all-read : AllRead (o .monitors)
   all-read m i =
       let (d, j, p) = map-∈ (renumbered 0) (a .program .monitors) (subst (λ ms. m ∈ ms) numbered i) in
@@ -146,10 +149,6 @@ module _ (text : List ℕ) (o : Opened) (e : openText text ≡ value o) where
       let t : total size (o .monitors) ≡ total size (a .program .monitors)
       = ap (total size) numbered ∙ total-renumbered size (renumbered-size 0) (a .program .monitors) in
       omega (arith, row-count, rows-below-1024 (o .monitors) (a .shaped) (omega (arith, a .few)))
-
-  -- The machine of active positions answers every list of calls as the definitions do.
-  pub machine-right : (cs : List Call) → machineReplies (o .monitors) (o .initial) (o .wires) cs ≡ replies (o .monitors) (o .initial) (o .wires) cs
-  machine-right cs = calls-right (o .monitors) all-read (o .initial) (o .wires) cs
 
 -- ---- rules 9 and 12 of a program that reading gives are those of words
 

@@ -1,12 +1,12 @@
 -- All that can come of judging a token: it is refused itself, a wide wire before it is, the text ends, or reading goes on, by what the token is. A proof on every step of
 -- reading goes by these cases. Assumes nothing.
-use mathlib.Core.Path.{_≡_, refl, sym, ap, subst}
+use mathlib.Core.Path.{_≡_, refl, sym, _∙_, ap, subst}
 use mathlib.Core.Bool.{Bool, true, false, cond, _&&_}
 use mathlib.Core.List.{List, [], _∷_, _++_}
 use mathlib.Core.Option.{Option, none, some}
 use Prim.Native.Nat.{ℕ, suc, _+_, _^_, _≤_, _<_}
-use lib.Dec.{eqb, ltb}
-use lib.ListN.{length}
+use lib.Dec.{eqb, leb, ltb}
+use lib.ListN.{length, getD}
 use borrow.Author.Tests.{eqb-true, leb-false, ltb-false, not-true, not-false}
 use Rattle.lexer.specs.Bytes.{same, lookup}
 use Rattle.lexer.specs.Signs.{semicolon, comma, atSign, star as asterisk, ampersand, bang, leftParen, rightParen, leftBracket, rightBracket, leftBrace, rightBrace, equals, doubleEquals, doubleBar, rightArrow, leftArrow}
@@ -14,12 +14,12 @@ use Rattle.lexer.specs.Tokens as token
 use Rattle.lexer.specs.Tokens.{Token, Placed, tokens, ruleWords}
 use Rattle.lexer.proofs.Spelling.{same-eq}
 use Rattle.lexer.proofs.Bools.{and-left, and-right, or-left, or-right}
-use Rattle.meaning.specs.Names.{Declaration, Meaning, anInput, aStore, aDefine, aProduction, Names, noNames, newInput, newStore, newDefine, newProduction, declare, Program, programOf}
-use Rattle.meaning.specs.Expression.{Literal, wire, wire-store, wire-past, store, Write, from-wire, from-number, Exp, star, storeTests, aLetter}
+use Rattle.meaning.specs.Names.{Declaration, Meaning, anInput, aStore, aDefine, aProduction, Names, noNames, newInput, newStore, newDefine, newProduction, newLimit, declare, Program, programOf}
+use Rattle.meaning.specs.Expression.{Literal, wire, wire-store, wire-past, store, Write, from-wire, from-number, Exp, star, storeTests, aLetter, single}
 use Rattle.meaning.specs.Answers.{Answer, value, refused, byte}
-use Rattle.refusals.specs.Numbers.{overlong, unknown, twice, oversize, crowded}
+use Rattle.refusals.specs.Numbers.{overlong, unknown, twice, oversize, crowded, stretch}
 use Rattle.meaning.specs.Reading
-use Rattle.meaning.specs.Reading.{Level, newLevel, Open, onLevel, Context, inDefine, inLetter, Expect, statement, sign, nought, closing, inputName, inputMore, inputHigh, storeName, storeMore, storeHigh, storeFirst, defineName, operand, literal, negated, wireMore, bitIndex, wireEquals, storeEquals, pastName, literalMore, writeStore, writeValue, writeMore, operandMore, monitorName, monitorMore, textEnd, Step, go, finished, fault, choose, is, atToken, notHere, unless, ifName, ifNumber, onName, onNumber, byKind, known, newName, step, andThen, readOn, read, behindOperand, behindLiteral, literalName, tooMany, toZero, whole}
+use Rattle.meaning.specs.Reading.{Level, newLevel, Open, onLevel, Context, inDefine, inLetter, Expect, statement, sign, keyword, nought, closing, inputName, inputMore, inputHigh, storeName, storeMore, storeHigh, storeFirst, defineName, limitName, limitMost, limitWindow, operand, literal, negated, wireMore, bitIndex, wireEquals, storeEquals, pastName, literalMore, writeStore, writeValue, writeMore, operandMore, monitorName, monitorMore, textEnd, Step, go, finished, fault, choose, is, atToken, notHere, unless, ifName, ifNumber, onName, onNumber, byKind, known, newName, step, andThen, readOn, read, behindOperand, behindLiteral, literalName, tooMany, toZero, whole}
 use Rattle.meaning.specs.Grammar.{Stands, Free}
 use Rattle.meaning.proofs.ListLaws.{clash}
 use Rattle.meaning.proofs.Steps.{of-choose, of-kind, of-unless}
@@ -89,6 +89,9 @@ pub data ByNumber (ns : Names) : ℕ → Expect → Expect → Type 0 where
   input-width : {h : ℕ} {s : List ℕ} → h ≤ 63 → ns .wires + suc h ≤ 64 → ByNumber ns h (inputHigh s) (toZero (closing (newInput s (suc h))))
   store-width : {h : ℕ} {s : List ℕ} → h ≤ 63 → ByNumber ns h (storeHigh s) (toZero (sign equals (storeFirst s (suc h))))
   first-value : {v w : ℕ} {s : List ℕ} → v < 2 ^ w → ByNumber ns v (storeFirst s w) (closing (newStore s w v))
+  -- in a limit
+  limit-most : {p n : ℕ} → n ≤ 1023 → ByNumber ns n (limitMost p) (keyword token.inside (limitWindow p n))
+  limit-window : {p n w : ℕ} → n < w → w ≤ 1024 → ByNumber ns w (limitWindow p n) (closing (newLimit p n w))
   -- in a literal, and in a write
   bit-index : {c : Context} {ls : List Literal} {i lo w v : ℕ} → i < w → ByNumber ns i (bitIndex c ls lo w v) (sign rightBracket (literalMore c (ls ++ (wire (lo + i) 1 v ∷ []))))
   wire-value : {c : Context} {ls : List Literal} {s : List ℕ} {lo w v : ℕ} → v < 2 ^ w → ByNumber ns v (wireEquals c ls s lo w) (literalMore c (ls ++ (wire lo w v ∷ [])))
@@ -103,6 +106,8 @@ pub data ByName (ns : Names) (place : ℕ) (s : List ℕ) : Expect → Expect �
   new-store : Free ns s → length (ns .initial) < 16 → ByName ns place s storeName (storeMore s)
   new-define : Free ns s → ByName ns place s defineName (sign equals (literal (inDefine s) []))
   new-production : Free ns s → ByName ns place s statement (sign rightArrow (operand (record { name = s; level = newLevel; outer = [] })))
+  -- of a limit
+  limited : {e : Exp} {p : ℕ} → Stands ns s (aProduction e) → single e ≡ some p → ByName ns place s limitName (keyword token.to (limitMost p))
   -- what begins a literal or an operand
   of-wire : {x : Expect} {c : Context} {ls : List Literal} {lo w : ℕ} → LiteralNext x c ls → Stands ns s (anInput lo w)
       → ByName ns place s x (wireMore c ls s lo w 1 place)
@@ -124,21 +129,24 @@ pub data ByName (ns : Names) (place : ℕ) (s : List ℕ) : Expect → Expect �
       → ByName ns place s (writeValue o ls ws n w) (sign semicolon (writeMore o ls (ws ++ (from-wire n lo m ∷ []))))
   monitored : {ms : List Exp} {e : Exp} → Stands ns s (aProduction e) → length ms < 32 → ByName ns place s (monitorName ms) (monitorMore (ms ++ (e ∷ [])))
 
-pub data ByWord : token.Word → Expect → Expect → Type 0 where
+pub data ByWord (ns : Names) : token.Word → Expect → Expect → Type 0 where
+  -- the word that had to come
+  expected-word : {w : token.Word} {x : Expect} → ByWord ns w (keyword w x) x
   -- what begins a statement
-  begins-input : ByWord token.input statement inputName
-  begins-store : ByWord token.internal statement storeName
-  begins-define : ByWord token.define statement defineName
-  begins-monitor : ByWord token.monitor statement (monitorName [])
+  begins-input : ByWord ns token.input statement inputName
+  begins-store : ByWord ns token.internal statement storeName
+  begins-define : ByWord ns token.define statement defineName
+  begins-limit : length (ns .limits) < 8 → ByWord ns token.limit statement limitName
+  begins-monitor : ByWord ns token.monitor statement (monitorName [])
   -- behind `wire ==`
-  compared-past : {c : Context} {ls : List Literal} {s : List ℕ} {lo w : ℕ} → ByWord token.past (wireEquals c ls s lo w) (sign leftParen (pastName c ls s lo w))
+  compared-past : {c : Context} {ls : List Literal} {s : List ℕ} {lo w : ℕ} → ByWord ns token.past (wireEquals c ls s lo w) (sign leftParen (pastName c ls s lo w))
 
 -- The token u at a place leads from x to y, with the names ms. Neither the end nor a knot leads anywhere.
 pub data Next (ns : Names) (place : ℕ) : Token → Expect → Names → Expect → Type 0 where
   by-sign : {k : ℕ} {x y : Expect} {ms : Names} → BySign ns k x ms y → Next ns place (token.sign k) x ms y
   by-number : {n : ℕ} {x y : Expect} → ByNumber ns n x y → Next ns place (token.number n) x ns y
   by-name : {s : List ℕ} {x y : Expect} → ByName ns place s x y → Next ns place (token.name s) x ns y
-  by-word : {w : token.Word} {x y : Expect} → ByWord w x y → Next ns place (token.word w) x ns y
+  by-word : {w : token.Word} {x y : Expect} → ByWord ns w x y → Next ns place (token.word w) x ns y
 
 -- What can come of judging the token t where x is expected.
 pub data Outcome (ns : Names) (t : Placed) : Expect → Step → Type 0 where
@@ -159,17 +167,24 @@ is-token k (token.sign n) e = let h : k ≡ n = eqb-true k n e in cc
 is-token k token.end e = clash (cc)
 is-token k (token.refused n) e = clash (cc)
 
-past-token : (t : Token) → Reading.isPast t ≡ true → t ≡ token.word token.past
-past-token (token.name s) e = clash (cc)
-past-token (token.word token.input) e = clash (cc)
-past-token (token.word token.internal) e = clash (cc)
-past-token (token.word token.define) e = clash (cc)
-past-token (token.word token.monitor) e = clash (cc)
-past-token (token.word token.past) e = refl
-past-token (token.number n) e = clash (cc)
-past-token (token.sign n) e = clash (cc)
-past-token token.end e = clash (cc)
-past-token (token.refused n) e = clash (cc)
+-- a word is known by its number
+word-at : (w : token.Word) → getD ruleWords (Reading.ordinal w) token.input ≡ w
+word-at token.input = refl
+word-at token.internal = refl
+word-at token.define = refl
+word-at token.monitor = refl
+word-at token.past = refl
+word-at token.limit = refl
+word-at token.to = refl
+word-at token.inside = refl
+
+pub word-token : (w : token.Word) (t : Token) → Reading.isWord w t ≡ true → t ≡ token.word w
+word-token w (token.name s) e = clash (cc)
+word-token w (token.word v) e = ap token.word (sym (word-at v) ∙ ap (λ n. getD ruleWords n token.input) (sym (eqb-true (Reading.ordinal w) (Reading.ordinal v) e)) ∙ word-at w)
+word-token w (token.number n) e = clash (cc)
+word-token w (token.sign n) e = clash (cc)
+word-token w token.end e = clash (cc)
+word-token w (token.refused n) e = clash (cc)
 
 -- where no `@` has been read
 no-left : (m : Option Exp) → Reading.isNone m ≡ true → m ≡ none
@@ -198,6 +213,10 @@ module _ {ns : Names} {t : Placed} {x : Expect} where
   -- a sign with which reading goes on
   sign-to : (k : ℕ) (ms : Names) (y : Expect) (b : Step) → BySign ns k x ms y → Outcome ns t x b → Outcome ns t x (choose (is k t) (go ms y) b)
   sign-to k ms y b s g = on-sign k (go ms y) b (λ e. goes e (by-sign s)) g
+
+  -- likewise a word
+  word-to : (w : token.Word) (y : Expect) (b : Step) → ByWord ns w x y → Outcome ns t x b → Outcome ns t x (choose (Reading.isWord w (t .token)) (go ns y) b)
+  word-to w y b n g = of-choose (Outcome ns t x) (Reading.isWord w (t .token)) (go ns y) b (λ e. goes (word-token w (t .token) e) (by-word n)) (λ e. g)
 
   -- by a sign where a test passes too
   sign-and : (k : ℕ) (c : Bool) (ms : Names) (y : Expect) (b : Step) → (c ≡ true → BySign ns k x ms y) → Outcome ns t x b → Outcome ns t x (choose (is k t && c) (go ms y) b)
@@ -301,10 +320,18 @@ module _ {ns : Names} {t : Placed} where
   begins (token.word token.define) e = goes e (by-word begins-define)
   begins (token.word token.monitor) e = goes e (by-word begins-monitor)
   begins (token.word token.past) e = elsewhere
+  begins (token.word token.limit) e = right _ crowded _ (λ k. goes e (by-word (begins-limit (leb-false 8 (length (ns .limits)) k))))
+  begins (token.word token.to) e = elsewhere
+  begins (token.word token.inside) e = elsewhere
   begins (token.number n) e = elsewhere
   begins (token.sign n) e = elsewhere
   begins token.end e = elsewhere
   begins (token.refused n) e = elsewhere
+
+  -- the name of a production with the expression e, that is limited
+  of-single : (s : List ℕ) → t .token ≡ token.name s → (e : Exp) → Stands ns s (aProduction e) → (m : Option ℕ) → single e ≡ m → Outcome ns t limitName (Reading.ofSingle ns t m)
+  of-single s h e k none f = own _
+  of-single s h e k (some p) f = goes h (by-name (limited k f))
 
   ends : (ms : List Exp) (u : Token) → t .token ≡ u → Outcome ns t (textEnd ms) (Reading.atEnd ns ms t u)
   ends ms (token.name s) e = elsewhere
@@ -319,6 +346,7 @@ pub outcome : (ns : Names) (t : Placed) (x : Expect) → Outcome ns t x (step ns
 unfolding step
 outcome ns t statement = begins (t .token) refl
 outcome ns t (sign k x) = sign-to _ _ _ _ expected elsewhere
+outcome ns t (keyword w x) = word-to _ _ _ expected-word elsewhere
 outcome ns t (nought x) =
     on-number _ (λ n h.
     of-choose (Outcome ns t (nought x)) (eqb n 0) _ _
@@ -336,6 +364,12 @@ outcome ns t (storeHigh s) =
 outcome ns t (storeFirst s w) =
     on-number _ (λ v e. right _ oversize _ (λ k. goes e (by-number (first-value (leb-false (2 ^ w) v k)))))
 outcome ns t defineName = on-new _ _ _ (λ s f k l. new-define f)
+outcome ns t limitName = on-known _ _ _ _ (λ n h a b e. own _) (λ n h a b e. own _) (λ n h ds e. own _) (λ n h e k. of-single n h e k (single e) refl)
+outcome ns t (limitMost p) =
+    on-number _ (λ n e. right _ stretch _ (λ k. goes e (by-number (limit-most (ltb-false 1023 n k)))))
+outcome ns t (limitWindow p n) =
+    on-number _ (λ w e. right _ stretch _ (λ k.
+    goes e (by-number (limit-window (leb-false w n (or-left (leb w n) (ltb 1024 w) k)) (ltb-false 1024 w (or-right (leb w n) (ltb 1024 w) k))))))
 outcome ns t (operand o) =
     on-sign _ _ _ (λ e. right _ crowded _ (λ k. goes e (by-sign (opened (leb-false 32 (length (o .outer)) k)))))
     (sign-to _ _ _ _ (negation first-literal)
@@ -356,8 +390,8 @@ outcome ns t (bitIndex c ls lo w v) =
 outcome ns t (wireEquals c ls s lo w) =
     if-number _ _ (λ v e.
     right _ oversize _ (λ k. goes e (by-number (wire-value (leb-false (2 ^ w) v k)))))
-    (of-choose (Outcome ns t (wireEquals c ls s lo w)) (Reading.isPast (t .token)) _ _ (λ k. goes (past-token (t .token) k) (by-word compared-past)) (λ k.
-    on-known _ _ _ _ (λ n h a b e. own _)
+    (word-to _ _ _ compared-past
+    (on-known _ _ _ _ (λ n h a b e. own _)
     (λ n h i m e. right _ oversize _ (λ k. right _ crowded _ (λ l.
     goes h (by-name (equal-store (subst (λ z. Stands ns n (aStore i z)) (eqb-true m w (not-false (eqb m w) k)) e) l)))))
     (λ n h ds e. own _) (λ n h p e. own _)))

@@ -37,7 +37,7 @@ module _ (k : ℕ) where
   shiftPositions (on ns) = on (shiftAll ns)
 
   abbrev pub shiftLetter : Letter → Letter
-  shiftLetter l = record { number = k + l .number; literals = l .literals; writes = l .writes }
+  shiftLetter l = record { number = k + l .number; literals = l .literals; writes = l .writes; through = l .through }
 
   unfoldable pub shifted : Exp → Exp
   shifted (letter l) = letter (shiftLetter l)
@@ -49,7 +49,7 @@ module _ (k : ℕ) where
   -- what is numbered from j on is numbered from k + j on
   pub renumbered-shifted : (i j : ℕ) (e : Exp) → i ≡ k + j → Ordered j e → renumbered i e ≡ shifted e
   unfolding renumbered shifted
-  renumbered-shifted i j (letter l) p o = ap (λ n. letter (record { number = n; literals = l .literals; writes = l .writes })) (omega (arith, o))
+  renumbered-shifted i j (letter l) p o = ap (λ n. letter (record { number = n; literals = l .literals; writes = l .writes; through = l .through })) (omega (arith, o))
   renumbered-shifted i j (seq e f) p (o, u) = ap₂ seq (renumbered-shifted i j e p o) (renumbered-shifted (i + size e) (j + size e) f (omega arith) u)
   renumbered-shifted i j (alt e f) p (o, u) = ap₂ alt (renumbered-shifted i j e p o) (renumbered-shifted (i + size e) (j + size e) f (omega arith) u)
   renumbered-shifted i j (star e) p o = ap star (renumbered-shifted i j e p o)

@@ -1,11 +1,11 @@
 -- What holds of the names and of what is expected while a text is read, as far as proofs/Finish needs it: every input has a wire, names are declared behind one that is no
 -- define's, a name that is being declared is free, and all are names that a text can have. Assumes nothing.
-use mathlib.Core.Path.{_≡_, refl, sym, _∙_, ap, subst}
+use mathlib.Core.Path.{_≡_, refl, sym, _∙_, subst}
 use mathlib.Core.Bool.{Bool, true, false}
 use mathlib.Core.List.{List, []}
-use mathlib.Core.Option.{some}
+use mathlib.Core.Option.{none, some}
 use mathlib.Core.Logic.{_⊎_, inl, inr}
-use Prim.Native.Nat.{ℕ, suc, _<_}
+use Prim.Native.Nat.{ℕ, _+_, _<_}
 use native.Mathlib.Omega.{arith}
 use lib.Dec.{ltb}
 use lib.ListN.{length}
@@ -13,65 +13,80 @@ use Rattle.lexer.specs.Bytes.{same, lookup}
 use Rattle.lexer.specs.Tokens as token
 use Rattle.lexer.specs.Tokens.{Token}
 use Rattle.lexer.proofs.Spelling.{same-eq, same-refl, lookup-nil, lookup-hit, lookup-miss}
-use Rattle.meaning.specs.Expression.{Literal, Write, Exp}
-use Rattle.meaning.specs.Reading.{Open, Context, inDefine, inLetter, Expect, statement, sign, nought, closing, inputName, inputMore, inputHigh, storeName, storeMore, storeHigh, storeFirst, defineName, operand, literal, negated, wireMore, bitIndex, wireEquals, storeEquals, pastName, literalMore, writeStore, writeValue, writeMore, operandMore, monitorName, monitorMore, textEnd, whole}
-use Rattle.meaning.specs.Names.{Meaning, anInput, aStore, aDefine, aProduction, Names, noNames, Declaration, newInput, newStore, newDefine, newProduction, declare, withName}
+use Rattle.meaning.specs.Expression.{Literal, Write, Exp, asProduction}
+use Rattle.meaning.specs.Reading.{Open, Context, inDefine, inLetter, Expect, statement, sign, keyword, nought, closing, inputName, inputMore, inputHigh, storeName, storeMore, storeHigh, storeFirst, defineName, limitName, limitMost, limitWindow, operand, literal, negated, wireMore, bitIndex, wireEquals, storeEquals, pastName, literalMore, writeStore, writeValue, writeMore, operandMore, monitorName, monitorMore, textEnd, whole}
+use Rattle.meaning.specs.Names.{Meaning, anInput, aStore, aDefine, aProduction, Names, noNames, Declaration, newInput, newStore, newDefine, newProduction, newLimit, declare, withName}
 use Rattle.meaning.specs.Grammar.{Stands, Free}
-use Rattle.meaning.specs.Viable.{Spelled, HasInput, HasStore, HasProduction}
+use Rattle.meaning.specs.Viable.{Spelled, HasInput, HasStore, HasProduction, namesOf}
 use Rattle.meaning.proofs.ListLaws.{clash}
 use Rattle.meaning.proofs.FreeName.{New}
-use Rattle.meaning.proofs.Outcomes.{LiteralNext, more-literals, first-literal, BehindLiterals, literals, one-wire, BehindOperand, operands, letters, WriteNext, first-write, more-writes, BySign, expected, closed, narrow-input, wide-input, narrow-store, wide-store, opened, negation, index, compared, joined, defined, writing, written, starred, piped, followed, or-else, level-closed, produced, more-monitors, all-monitors, ByNumber, zero-read, input-width, store-width, first-value, bit-index, wire-value, store-value, number-written, ByName, new-input, new-store, new-define, new-production, of-wire, of-store, of-define, of-production, of-negated, equal-store, store-written, wire-written, monitored, Next, by-sign, by-number, by-name, by-word, same-wire, ByWord, begins-input, begins-store, begins-define, begins-monitor, compared-past}
+use Rattle.meaning.proofs.Outcomes.{LiteralNext, more-literals, first-literal, BehindLiterals, literals, one-wire, BehindOperand, operands, letters, WriteNext, first-write, more-writes, BySign, expected, closed, narrow-input, wide-input, narrow-store, wide-store, opened, negation, index, compared, joined, defined, writing, written, starred, piped, followed, or-else, level-closed, produced, more-monitors, all-monitors, ByNumber, zero-read, input-width, store-width, first-value, limit-most, limit-window, bit-index, wire-value, store-value, number-written, ByName, new-input, new-store, new-define, new-production, limited, of-wire, of-store, of-define, of-production, of-negated, equal-store, store-written, wire-written, monitored, Next, by-sign, by-number, by-name, by-word, same-wire, ByWord, expected-word, begins-input, begins-store, begins-define, begins-limit, begins-monitor, compared-past}
 
--- ---- a name more
+-- ---- a declaration more
 
-abbrev pub nameOf : Declaration → List ℕ
-nameOf (newInput s width) = s
-nameOf (newStore s width v) = s
-nameOf (newDefine s ls) = s
-nameOf (newProduction s e) = s
+-- the declaration declares this name, which stands for this; a limit declares none
+pub data Gives (ns : Names) : Declaration → List ℕ → Meaning → Type 0 where
+  gives-input : {s : List ℕ} {w : ℕ} → Gives ns (newInput s w) s (anInput (ns .wires) w)
+  gives-store : {s : List ℕ} {w v : ℕ} → Gives ns (newStore s w v) s (aStore (length (ns .initial)) w)
+  gives-define : {s : List ℕ} {ls : List Literal} → Gives ns (newDefine s ls) s (aDefine ls)
+  gives-production : {s : List ℕ} {e : Exp} → Gives ns (newProduction s e) s (aProduction (asProduction (length (ns .declared)) e))
 
-abbrev pub meaningOf : Names → Declaration → Meaning
-meaningOf ns (newInput s width) = anInput (ns .wires) width
-meaningOf ns (newStore s width v) = aStore (length (ns .initial)) width
-meaningOf ns (newDefine s ls) = aDefine ls
-meaningOf ns (newProduction s e) = aProduction e
-
-module _ (ns : Names) (d : Declaration) where
-  pub declared-as : declare d ns .declared ≡ withName (nameOf d) (meaningOf ns d) (ns .declared)
+module _ (ns : Names) where
+  declared-as : {d : Declaration} {s : List ℕ} {m : Meaning} → Gives ns d s m → declare d ns .declared ≡ withName s m (ns .declared)
   unfolding declare
-  declared-as = by d
-    where
-      by : (d : Declaration) → declare d ns .declared ≡ withName (nameOf d) (meaningOf ns d) (ns .declared)
-      by (newInput s width) = refl
-      by (newStore s width v) = refl
-      by (newDefine s ls) = refl
-      by (newProduction s e) = refl
+  declared-as gives-input = refl
+  declared-as gives-store = refl
+  declared-as gives-define = refl
+  declared-as gives-production = refl
 
-  pub one-more : length (declare d ns .declared) ≡ suc (length (ns .declared))
-  one-more = ap length declared-as
+  -- what a declaration gives, if it is no limit
+  given : (d : Declaration) → ((s : List ℕ) × (m : Meaning) × Gives ns d s m) ⊎ (declare d ns .declared ≡ ns .declared)
+  unfolding declare
+  given (newInput s w) = inl (s, _, gives-input)
+  given (newStore s w v) = inl (s, _, gives-store)
+  given (newDefine s ls) = inl (s, _, gives-define)
+  given (newProduction s e) = inl (s, _, gives-production)
+  given (newLimit p n w) = inr refl
+
+  pub names-more : (d : Declaration) → length (declare d ns .declared) ≡ length (ns .declared) + namesOf d
+  unfolding declare
+  names-more (newInput s w) = omega arith
+  names-more (newStore s w v) = omega arith
+  names-more (newDefine s ls) = omega arith
+  names-more (newProduction s e) = omega arith
+  names-more (newLimit p n w) = omega arith
 
   -- what is declared stands
-  pub stands-itself : Stands (declare d ns) (nameOf d) (meaningOf ns d)
-  stands-itself = rw declared-as (lookup-hit (nameOf d) _ (ns .declared) (same-refl (nameOf d)))
+  pub stands-itself : {d : Declaration} {s : List ℕ} {m : Meaning} → Gives ns d s m → Stands (declare d ns) s m
+  stands-itself {s} g = rw (declared-as g) (lookup-hit s _ (ns .declared) (same-refl s))
 
-  -- and what stood above still does
-  pub stands-on : (s : List ℕ) (m : Meaning) → Free ns (nameOf d) → Stands ns s m → Stands (declare d ns) s m
-  stands-on s m (f, h) e = rw declared-as (at (same s (nameOf d)) refl)
-    where
-      at : (t : Bool) → same s (nameOf d) ≡ t → lookup s (withName (nameOf d) (meaningOf ns d) (ns .declared)) ≡ some m
-      at true g = let k : s ≡ nameOf d = same-eq s (nameOf d) g in clash (cc)
-      at false g = lookup-miss s _ (ns .declared) g ∙ e
+  module _ (d : Declaration) (s : List ℕ) (m : Meaning) where
+    -- and what stood above still does
+    stands-on : ((r : List ℕ) (k : Meaning) → Gives ns d r k → Free ns r) → Stands ns s m → Stands (declare d ns) s m
+    stands-on free e = by (given d)
+      where
+        by : ((r : List ℕ) × (k : Meaning) × Gives ns d r k) ⊎ (declare d ns .declared ≡ ns .declared) → Stands (declare d ns) s m
+        by (inl (r, k, g)) = rw (declared-as g) (at (same s r) refl (free r k g .0))
+          where
+            at : (t : Bool) → same s r ≡ t → lookup r (ns .declared) ≡ none → lookup s (withName r k (ns .declared)) ≡ some m
+            at true h f = let l : s ≡ r = same-eq s r h in clash (cc)
+            at false h f = lookup-miss s _ (ns .declared) h ∙ e
+        by (inr h) = rw h e
 
-  -- a name that stands is the one declared, or stood above
-  abbrev pub Stood : List ℕ → Meaning → Type 0
-  Stood s m = ((s ≡ nameOf d) × (meaningOf ns d ≡ m)) ⊎ Stands ns s m
-
-  pub stood : (s : List ℕ) (m : Meaning) → Stands (declare d ns) s m → Stood s m
-  stood s m e = at (same s (nameOf d)) refl (rw declared-as at e)
-    where
-      at : (t : Bool) → same s (nameOf d) ≡ t → lookup s (withName (nameOf d) (meaningOf ns d) (ns .declared)) ≡ some m → Stood s m
-      at true g f = inl (same-eq s (nameOf d) g, cc (lookup-hit s (record { spelling = nameOf d; meaning = meaningOf ns d }) (ns .declared) g))
-      at false g f = inr (sym (lookup-miss s _ (ns .declared) g) ∙ f)
+    -- a name that stands is the one declared, or stood above
+    pub stood : Stands (declare d ns) s m → Gives ns d s m ⊎ Stands ns s m
+    stood e = by (given d)
+      where
+        by : ((r : List ℕ) × (k : Meaning) × Gives ns d r k) ⊎ (declare d ns .declared ≡ ns .declared) → Gives ns d s m ⊎ Stands ns s m
+        by (inl (r, k, g)) = at (same s r) refl (rw (declared-as g) at e)
+          where
+            at : (t : Bool) → same s r ≡ t → lookup s (withName r k (ns .declared)) ≡ some m → Gives ns d s m ⊎ Stands ns s m
+            at true h f =
+                let l : r ≡ s = sym (same-eq s r h) in
+                let q : k ≡ m = cc (lookup-hit s (record { spelling = r; meaning = k }) (ns .declared) h) in
+                inl (subst (Gives ns d s) q (subst (λ z. Gives ns d z k) l g))
+            at false h f = inr (sym (lookup-miss s _ (ns .declared) h) ∙ f)
+        by (inr h) = inr (rw h at e)
 
 -- ---- the names
 
@@ -87,12 +102,13 @@ pub record NamesSound (ns : Names) : Type 0 where
   pub rooted : (ns ≡ noNames) ⊎ Root ns
   pub spelled : (s : List ℕ) (m : Meaning) → Stands ns s m → Spelled (token.name s)
 
--- what a name needs to be declared
+-- what a declaration needs
 abbrev pub DeclarationSound : Names → Declaration → Type 0
 DeclarationSound ns (newInput s width) = New ns s × (0 < width)
 DeclarationSound ns (newStore s width v) = New ns s
 DeclarationSound ns (newDefine s ls) = New ns s × Root ns
 DeclarationSound ns (newProduction s e) = Spelled (token.name s)
+DeclarationSound ns (newLimit p n w) = Root ns
 
 -- a declaration of no production
 abbrev pub NoProduction : Declaration → Type 0
@@ -100,6 +116,18 @@ NoProduction (newInput s width) = Unit {0}
 NoProduction (newStore s width v) = Unit {0}
 NoProduction (newDefine s ls) = Unit {0}
 NoProduction (newProduction s e) = ⊥
+NoProduction (newLimit p n w) = Unit {0}
+
+module _ (ns : Names) where
+  -- what stood above still does behind it
+  pub still-stands : (d : Declaration) → DeclarationSound ns d → NoProduction d → (s : List ℕ) (m : Meaning) → Stands ns s m → Stands (declare d ns) s m
+  still-stands d h n s m e = stands-on ns d s m (λ r k g. free g h n) e
+    where
+      free : {d : Declaration} {r : List ℕ} {k : Meaning} → Gives ns d r k → DeclarationSound ns d → NoProduction d → Free ns r
+      free gives-input (f, h) n = f .0
+      free gives-store f n = f .0
+      free gives-define (f, h) n = f .0
+      free gives-production h n = absurd n
 
 module _ (ns : Names) (names : NamesSound ns) where
   -- where a name stands, one does that is no define's
@@ -110,41 +138,45 @@ module _ (ns : Names) (names : NamesSound ns) where
       by (inl h) = let f : lookup s [] ≡ some m = subst (λ (k : Names). lookup s (k .declared) ≡ some m) h e in clash (cc (lookup-nil {A = Meaning} s))
       by (inr r) = r
 
-  root-on : (d : Declaration) → Free ns (nameOf d) → Root ns → Root (declare d ns)
-  root-on d f (an-input (s, lo, w, e)) = an-input (s, lo, w, stands-on ns d s _ f e)
-  root-on d f (a-store (s, n, w, e)) = a-store (s, n, w, stands-on ns d s _ f e)
-  root-on d f (a-production (s, e, g)) = a-production (s, e, stands-on ns d s _ f g)
+  root-on : (d : Declaration) → DeclarationSound ns d → NoProduction d → Root ns → Root (declare d ns)
+  root-on d h n (an-input (s, lo, w, e)) = an-input (s, lo, w, still-stands ns d h n s _ e)
+  root-on d h n (a-store (s, i, w, e)) = a-store (s, i, w, still-stands ns d h n s _ e)
+  root-on d h n (a-production (s, e, g)) = a-production (s, e, still-stands ns d h n s _ g)
 
   pub declare-sound : (d : Declaration) → DeclarationSound ns d → NamesSound (declare d ns)
   declare-sound d h =
       record {
-        inputs = λ s lo w e. wired d h lo w (stood ns d s (anInput lo w) e) (names .inputs s lo w);
+        inputs = λ s lo w e. wired s lo w (stood ns d s (anInput lo w) e);
         rooted = inr (rooted-by d h);
-        spelled = λ s m e. spelled-by s (stood ns d s m e) (names .spelled s m);
+        spelled = λ s m e. spelled-by s m (stood ns d s m e);
       }
     where
-      wired : (d : Declaration) → DeclarationSound ns d → (lo w : ℕ) {A B : Type 0} → (A × (meaningOf ns d ≡ anInput lo w)) ⊎ B → (B → 0 < w) → 0 < w
-      wired (newInput s width) h lo w (inl (k, e)) f = let g : width ≡ w = cc in omega arith
-      wired (newStore s width v) h lo w (inl (k, e)) f = clash (cc)
-      wired (newDefine s ls) h lo w (inl (k, e)) f = clash (cc)
-      wired (newProduction s x) h lo w (inl (k, e)) f = clash (cc)
-      wired d h lo w (inr a) f = f a
+      wide : {d : Declaration} {s : List ℕ} {m : Meaning} (lo w : ℕ) → Gives ns d s m → DeclarationSound ns d → m ≡ anInput lo w → 0 < w
+      wide lo w (gives-input {w = width}) (f, h) e = let g : width ≡ w = cc in omega arith
+      wide lo w gives-store h e = clash (cc)
+      wide lo w gives-define h e = clash (cc)
+      wide lo w gives-production h e = clash (cc)
 
-      of-name : (d : Declaration) → DeclarationSound ns d → Spelled (token.name (nameOf d))
-      of-name (newInput s width) (f, h) = f .1
-      of-name (newStore s width v) f = f .1
-      of-name (newDefine s ls) (f, h) = f .1
-      of-name (newProduction s x) h = h
+      wired : (s : List ℕ) (lo w : ℕ) → Gives ns d s (anInput lo w) ⊎ Stands ns s (anInput lo w) → 0 < w
+      wired s lo w (inl g) = wide lo w g h refl
+      wired s lo w (inr e) = names .inputs s lo w e
 
-      spelled-by : (s : List ℕ) {A B : Type 0} → ((s ≡ nameOf d) × A) ⊎ B → (B → Spelled (token.name s)) → Spelled (token.name s)
-      spelled-by s (inl (k, e)) f = subst (λ (r : List ℕ). Spelled (token.name r)) (sym k) (of-name d h)
-      spelled-by s (inr a) f = f a
+      of-name : {d : Declaration} {s : List ℕ} {m : Meaning} → Gives ns d s m → DeclarationSound ns d → Spelled (token.name s)
+      of-name gives-input (f, h) = f .1
+      of-name gives-store f = f .1
+      of-name gives-define (f, h) = f .1
+      of-name gives-production h = h
+
+      spelled-by : (s : List ℕ) (m : Meaning) → Gives ns d s m ⊎ Stands ns s m → Spelled (token.name s)
+      spelled-by s m (inl g) = of-name g h
+      spelled-by s m (inr e) = names .spelled s m e
 
       rooted-by : (d : Declaration) → DeclarationSound ns d → Root (declare d ns)
-      rooted-by (newInput s width) h = an-input (s, ns .wires, width, stands-itself ns (newInput s width))
-      rooted-by (newStore s width v) h = a-store (s, length (ns .initial), width, stands-itself ns (newStore s width v))
-      rooted-by (newDefine s ls) (f, r) = root-on (newDefine s ls) (f .0) r
-      rooted-by (newProduction s e) h = a-production (s, e, stands-itself ns (newProduction s e))
+      rooted-by (newInput s width) h = an-input (s, ns .wires, width, stands-itself ns gives-input)
+      rooted-by (newStore s width v) h = a-store (s, length (ns .initial), width, stands-itself ns gives-store)
+      rooted-by (newDefine s ls) (f, r) = root-on (newDefine s ls) (f, r) tt r
+      rooted-by (newProduction s e) h = a-production (s, _, stands-itself ns gives-production)
+      rooted-by (newLimit p n w) r = root-on (newLimit p n w) r tt r
 
 -- ---- what is expected
 
@@ -163,6 +195,7 @@ LiteralsSound ns c = ContextSound ns c × Root ns
 abbrev pub ExpectSound : Names → Expect → Type 0
 ExpectSound ns statement = Unit {0}
 ExpectSound ns (sign k x) = (ltb k 18 ≡ true) × ExpectSound ns x
+ExpectSound ns (keyword w x) = ExpectSound ns x
 ExpectSound ns (nought x) = ExpectSound ns x
 ExpectSound ns (closing d) = DeclarationSound ns d × NoProduction d
 ExpectSound ns inputName = Unit {0}
@@ -173,6 +206,9 @@ ExpectSound ns (storeMore s) = New ns s
 ExpectSound ns (storeHigh s) = New ns s
 ExpectSound ns (storeFirst s width) = New ns s
 ExpectSound ns defineName = Unit {0}
+ExpectSound ns limitName = Unit {0}
+ExpectSound ns (limitMost p) = Root ns
+ExpectSound ns (limitWindow p n) = Root ns
 ExpectSound ns (operand o) = OpenSound o
 ExpectSound ns (literal c ls) = ContextSound ns c
 ExpectSound ns (negated c ls) = ContextSound ns c
@@ -241,6 +277,8 @@ module _ (ns : Names) (names : NamesSound ns) where
   number-sound (input-width k l) (f, h) = (refl, (refl, ((f, omega arith), tt)))
   number-sound (store-width k) g = (refl, (refl, (refl, g)))
   number-sound (first-value k) g = (g, tt)
+  number-sound (limit-most k) g = g
+  number-sound (limit-window k l) g = (g, tt)
   number-sound (bit-index k) (g, h) = (refl, g)
   number-sound (wire-value k) (g, r) = g
   number-sound (store-value k) g = g
@@ -252,6 +290,7 @@ module _ (ns : Names) (names : NamesSound ns) where
     name-sound (new-store f h) g = (f, spelled)
     name-sound (new-define f) g = (refl, (f, spelled))
     name-sound (new-production f) g = (refl, spelled)
+    name-sound (limited e k) g = root ns names s _ e
     name-sound (of-wire {lo} {w} n e) g = ((literal-next n g, root ns names s _ e), names .inputs s lo w e, spelled)
     name-sound (of-store n e k) g = (refl, (literal-next n g, root ns names s _ e))
     name-sound (of-define n e k) g = (literal-next n g, root ns names s _ e)
@@ -263,10 +302,12 @@ module _ (ns : Names) (names : NamesSound ns) where
     name-sound (wire-written e k) g = (refl, g)
     name-sound (monitored e k) g = tt
 
-  word-sound : {w : token.Word} {x y : Expect} → ByWord w x y → ExpectSound ns x → ExpectSound ns y
+  word-sound : {w : token.Word} {x y : Expect} → ByWord ns w x y → ExpectSound ns x → ExpectSound ns y
+  word-sound expected-word g = g
   word-sound begins-input g = tt
   word-sound begins-store g = tt
   word-sound begins-define g = tt
+  word-sound (begins-limit few) g = tt
   word-sound begins-monitor g = tt
   word-sound compared-past g = (refl, g)
 

@@ -1,37 +1,39 @@
 -- What names and limits are needed for: where a token leads from x to y, and they are not in the way of y, they are not in the way of x (specs/Viable). So they are in no way
 -- of what becomes a text. And where there is enough of all they are in no way of anything. Assumes nothing.
-use mathlib.Core.Path.{_≡_, subst}
+use mathlib.Core.Path.{_≡_, refl, subst}
 use mathlib.Core.Bool.{Bool}
 use mathlib.Core.List.{List, [], _∷_}
 use mathlib.Core.Logic.{_⊎_, inl, inr}
-use Prim.Native.Nat.{ℕ, _<_}
+use Prim.Native.Nat.{ℕ}
 use native.Mathlib.Omega.{arith}
-use lib.ListN.{length}
 use Rattle.lexer.specs.Tokens as token
 use Rattle.lexer.specs.Tokens.{Token, Placed}
 use Rattle.meaning.specs.Expression.{Literal, Write, Exp}
 use Rattle.meaning.specs.Answers.{value}
-use Rattle.meaning.specs.Reading.{Open, Context, inDefine, inLetter, Expect, statement, sign, nought, closing, inputName, inputMore, inputHigh, storeName, storeMore, storeHigh, storeFirst, defineName, operand, literal, negated, wireMore, bitIndex, wireEquals, storeEquals, pastName, literalMore, writeStore, writeValue, writeMore, operandMore, monitorName, monitorMore, textEnd, Step, andThen, readOn}
-use Rattle.meaning.specs.Names.{aProduction, Names, Declaration, newInput, newStore, newDefine, newProduction, declare, Program}
-use Rattle.meaning.specs.Grammar.{plainTokens}
+use Rattle.meaning.specs.Reading.{Open, Context, inDefine, inLetter, Expect, statement, sign, keyword, nought, closing, inputName, inputMore, inputHigh, storeName, storeMore, storeHigh, storeFirst, defineName, limitName, limitMost, limitWindow, operand, literal, negated, wireMore, bitIndex, wireEquals, storeEquals, pastName, literalMore, writeStore, writeValue, writeMore, operandMore, monitorName, monitorMore, textEnd, Step, andThen, readOn}
+use Rattle.meaning.specs.Names.{aProduction, Meaning, Names, Declaration, newInput, newDefine, declare, Program}
+use Rattle.meaning.specs.Grammar.{Stands, plainTokens}
 use Rattle.meaning.specs.Viable
-use Rattle.meaning.specs.Viable.{Spelled, AllSpelled, HasLiteral, Ends, EndsIn, Spare, MonitorNext, Ample}
+use Rattle.meaning.specs.Viable.{Spelled, AllSpelled, HasProduction, HasLiteral, Ends, namesOf, EndsIn, Spare, Awaits, Ample}
 use Rattle.meaning.proofs.ListLaws.{clash}
-use Rattle.meaning.proofs.Outcomes.{LiteralNext, more-literals, first-literal, BehindLiterals, literals, one-wire, BehindOperand, operands, letters, WriteNext, first-write, more-writes, BySign, expected, closed, narrow-input, wide-input, narrow-store, wide-store, opened, negation, index, compared, joined, defined, writing, written, starred, piped, followed, or-else, level-closed, produced, more-monitors, all-monitors, ByNumber, zero-read, input-width, store-width, first-value, bit-index, wire-value, store-value, number-written, ByName, new-input, new-store, new-define, new-production, of-wire, of-store, of-define, of-production, of-negated, equal-store, store-written, wire-written, monitored, Next, by-sign, by-number, by-name, by-word, Outcome, refusal, late, ended, goes, outcome, same-wire, ByWord, begins-input, begins-store, begins-define, begins-monitor, compared-past}
-use Rattle.meaning.proofs.Sound.{meaningOf, one-more, stood, NoProduction, Sound, ExpectSound, next-sound}
+use Rattle.meaning.proofs.Outcomes.{LiteralNext, more-literals, first-literal, BehindLiterals, literals, one-wire, BehindOperand, operands, letters, WriteNext, first-write, more-writes, BySign, expected, closed, narrow-input, wide-input, narrow-store, wide-store, opened, negation, index, compared, joined, defined, writing, written, starred, piped, followed, or-else, level-closed, produced, more-monitors, all-monitors, ByNumber, zero-read, input-width, store-width, first-value, limit-most, limit-window, bit-index, wire-value, store-value, number-written, ByName, new-input, new-store, new-define, new-production, limited, of-wire, of-store, of-define, of-production, of-negated, equal-store, store-written, wire-written, monitored, Next, by-sign, by-number, by-name, by-word, Outcome, refusal, late, ended, goes, outcome, same-wire, ByWord, expected-word, begins-input, begins-store, begins-define, begins-limit, begins-monitor, compared-past}
+use Rattle.meaning.proofs.Sound.{Gives, gives-input, gives-store, gives-define, gives-production, names-more, stood, NoProduction, Sound, ExpectSound, next-sound}
 
 module _ (ns : Names) where
   -- before a declaration that is no production's
-  ends-before : (d : Declaration) → NoProduction d → Ends 0 (declare d ns) → Ends 1 ns
-  ends-before d g (inr h) = inr (omega (arith, one-more ns d))
-  ends-before d g (inl (s, e, h)) = inl (s, e, by d g (stood ns d s (aProduction e) h))
+  ends-before : (d : Declaration) → NoProduction d → Ends 0 (declare d ns) → Ends (namesOf d) ns
+  ends-before d n (inr h) = inr (omega (arith, names-more ns d))
+  ends-before d n (inl (s, e, h)) = inl (s, e, by (stood ns d s (aProduction e) h))
     where
-      by : {A B : Type 0} (d : Declaration) → NoProduction d → (A × (meaningOf ns d ≡ aProduction e)) ⊎ B → B
-      by (newInput r w) g (inl (i, k)) = clash (cc)
-      by (newStore r w v) g (inl (i, k)) = clash (cc)
-      by (newDefine r ls) g (inl (i, k)) = clash (cc)
-      by (newProduction r x) g (inl (i, k)) = absurd g
-      by d g (inr a) = a
+      other : {d : Declaration} {m : Meaning} → Gives ns d s m → NoProduction d → m ≡ aProduction e → ⊥
+      other gives-input n k = clash (cc)
+      other gives-store n k = clash (cc)
+      other gives-define n k = clash (cc)
+      other gives-production n k = n
+
+      by : Gives ns d s (aProduction e) ⊎ Stands ns s (aProduction e) → Stands ns s (aProduction e)
+      by (inl g) = absurd (other g n refl)
+      by (inr k) = k
 
   literal-spare : {x : Expect} {c : Context} {ls : List Literal} → LiteralNext x c ls → HasLiteral ns c ls → EndsIn ns c → Spare ns x
   literal-spare more-literals l h = (l, h)
@@ -74,6 +76,8 @@ module _ (ns : Names) where
   number-spare (input-width k l) h = h
   number-spare (store-width k) h = h
   number-spare (first-value k) h = h
+  number-spare (limit-most k) (l, h) = h
+  number-spare (limit-window k l) h = (omega arith, h)
   number-spare (bit-index k) h = h
   number-spare (wire-value k) h = h
   number-spare (store-value k) h = h
@@ -84,6 +88,7 @@ module _ (ns : Names) where
   name-spare s (new-store (e, k) w) h = (omega arith, w, h)
   name-spare s (new-define (e, k)) (l, h) = (omega arith, l, h)
   name-spare s (new-production (e, k)) h = inr (omega arith)
+  name-spare s (limited {e} {p} k f) h = (s, e, p, k, f)
   name-spare s (of-wire {lo} {w} n e) h = literal-spare n (inl (s, lo, w, e)) h
   name-spare s (of-store {n = i} {w} n e k) h = literal-spare n (inr (inl ((s, i, w, e), k))) h
   name-spare s (of-define {ds} n e k) h = literal-spare n (inr (inr (s, ds, e, k))) h
@@ -99,10 +104,12 @@ module _ (ns : Names) where
   name-spare s (wire-written e k) h = tt
   name-spare s (monitored {e} k few) h = ((s, e, k), few)
 
-  word-spare : {w : token.Word} {x y : Expect} → ByWord w x y → Spare ns y → Spare ns x
+  word-spare : {w : token.Word} {x y : Expect} → ByWord ns w x y → Spare ns y → Spare ns x
+  word-spare expected-word h = h
   word-spare begins-input (r, w, h) = inr r
   word-spare begins-store (r, w, h) = inr r
   word-spare begins-define (r, l, h) = inr r
+  word-spare (begins-limit few) (s, e, p, h, k) = inl (s, e, h)
   word-spare begins-monitor (p, few) = inl p
   word-spare compared-past h = h
 
@@ -128,28 +135,46 @@ read-spare (q ∷ ts) ns x p (t, l) g e = by (outcome ns q x) g (λ ms y k f. re
 -- ---- enough of all
 
 module _ {ns : Names} where
+  produces : {x : Expect} → Ample ns x → HasProduction ns
+  produces a = let (s, e, p, h, k) = a .single in (s, e, h)
+
   in-context : {x : Expect} (c : Context) → Ample ns x → EndsIn ns c
-  in-context (inDefine s) a = inl (a .production)
+  in-context (inDefine s) a = inl (produces a)
   in-context (inLetter o) a = tt
 
-  inner : {y : Expect} (x : Expect) → Ample ns y → ((ms : List Exp) → MonitorNext x ms → length ms < 32) → Ample ns x
-  inner x a f = record { input = a .input; store = a .store; production = a .production; room = a .room; wires = a .wires; stores = a .stores; monitors = f }
+  -- behind what must come first
+  inner : {x y : Expect} → ((z : Expect) → Awaits x z → Awaits y z) → Ample ns y → Ample ns x
+  inner f a =
+      record {
+        input = a .input;
+        store = a .store;
+        single = a .single;
+        room = a .room;
+        wires = a .wires;
+        stores = a .stores;
+        monitors = λ ms m. a .monitors ms (f _ m);
+        windows = λ p n m. a .windows p n (f _ m);
+      }
 
   -- Where there is enough of all, names and limits are not in the way of anything that is expected.
   pub ample : (x : Expect) → Ample ns x → Spare ns x
-  ample statement a = inl (a .production)
-  ample (sign k x) a = ample x (inner x a (λ ms m. a .monitors ms (Viable.behind-sign m)))
-  ample (nought x) a = ample x (inner x a (λ ms m. a .monitors ms (Viable.behind-nought m)))
-  ample (closing d) a = inl (a .production)
-  ample inputName a = (a .room, a .wires, inl (a .production))
-  ample (inputMore s) a = inl (a .production)
-  ample (inputHigh s) a = inl (a .production)
-  ample storeName a = (a .room, a .stores, inl (a .production))
-  ample (storeMore s) a = inl (a .production)
-  ample (storeHigh s) a = inl (a .production)
-  ample (storeFirst s w) a = inl (a .production)
-  ample defineName a = (a .room, inl (a .input), inl (a .production))
-  ample (operand o) a = inr (a .production)
+  ample statement a = inl (produces a)
+  ample (sign k x) a = ample x (inner (λ z m. Viable.behind-sign m) a)
+  ample (keyword w x) a = ample x (inner (λ z m. Viable.behind-word m) a)
+  ample (nought x) a = ample x (inner (λ z m. Viable.behind-nought m) a)
+  ample (closing d) a = inl (produces a)
+  ample inputName a = (a .room, a .wires, inl (produces a))
+  ample (inputMore s) a = inl (produces a)
+  ample (inputHigh s) a = inl (produces a)
+  ample storeName a = (a .room, a .stores, inl (produces a))
+  ample (storeMore s) a = inl (produces a)
+  ample (storeHigh s) a = inl (produces a)
+  ample (storeFirst s w) a = inl (produces a)
+  ample defineName a = (a .room, inl (a .input), inl (produces a))
+  ample limitName a = a .single
+  ample (limitMost p) a = inl (produces a)
+  ample (limitWindow p n) a = (a .windows p n Viable.now, inl (produces a))
+  ample (operand o) a = inr (produces a)
   ample (literal c ls) a = (inl (a .input), in-context c a)
   ample (negated c ls) a = (a .input, in-context c a)
   ample (wireMore c ls s lo w v p) a = in-context c a
@@ -162,6 +187,6 @@ module _ {ns : Names} where
   ample (writeValue o ls ws n w) a = tt
   ample (writeMore o ls ws) a = tt
   ample (operandMore o e b) a = tt
-  ample (monitorName ms) a = (a .production, a .monitors ms Viable.at-name)
+  ample (monitorName ms) a = (produces a, a .monitors ms Viable.now)
   ample (monitorMore ms) a = tt
   ample (textEnd ms) a = tt

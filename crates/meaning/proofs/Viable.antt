@@ -1,4 +1,4 @@
--- Reading refuses a text at the right token (01's numbers 2 to 7): its first tokens can be followed by others to a text of the grammar exactly if reading them comes to no
+-- Reading refuses a text at the right token (numbers 2 to 7, 21 and 22): its first tokens can be followed by others to a text of the grammar exactly if reading them comes to no
 -- refusal and names and limits are not in the way of what is expected then (specs/Viable). So with the token that is refused they cannot be, and without it they can, names
 -- and limits apart. Assumes nothing.
 use mathlib.Core.Path.{_≡_, refl, sym, _∙_, ap, subst}

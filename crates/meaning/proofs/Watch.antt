@@ -6,7 +6,7 @@ use mathlib.Core.Path.{subst, _≡_, refl, sym, ap, ap₂, _∙_, fun-ext}
 use Prim.Native.Nat.{ℕ, suc}
 use Rattle.meaning.specs.Lists.{carry, member}
 use Rattle.meaning.specs.Expression.{Exp, letters}
-use Rattle.meaning.specs.Fit.{History, start, tick, ok, bad, onward, history, judged, Tick, met, writeMet, write, verdict}
+use Rattle.meaning.specs.Fit.{History, start, tick, ok, bad, onward, history, Tick, met, writeMet, write, verdict}
 use Rattle.meaning.specs.Positions.{Watch, seen, ticked, answer, told, moved, movedBy, opened, Positions, at-start, on, go, Ticked, fine, wrong, goOn, goEach, writeEach, keptEach}
 use Rattle.meaning.proofs.ListLaws.{carry-append, clash}
 use Rattle.meaning.proofs.Active.{then, positionsAfter}
@@ -109,15 +109,15 @@ module _ (ms : List Exp) (ac : AllAccepted ms) (h : History) (v : Watch) (tr : T
       (all-right 0 ms (v .positions) (h .ticks) (tick h w) ac (tr .0))
 
   -- it answers with the verdict
-  pub same-verdict : answer ms v w ≡ judged ms h w
+  pub same-verdict : answer ms v w ≡ verdict 0 ms (h .ticks ++ tick h w ∷ [])
   same-verdict = by (ticked ms v w) ticked-right
     where
-      by : (k : Ticked) → Right 0 ms (h .ticks) (tick h w) k → told k ≡ judged ms h w
+      by : (k : Ticked) → Right 0 ms (h .ticks) (tick h w) k → told k ≡ verdict 0 ms (h .ticks ++ tick h w ∷ [])
       by (wrong j) r = sym r
       by (fine nss) r = sym (r .0)
 
   -- and if that is ok it stands where one word more leads
-  pub same-move : judged ms h w ≡ ok → Tracks ms (onward ms h w) (moved ms v w)
+  pub same-move : verdict 0 ms (h .ticks ++ tick h w ∷ []) ≡ ok → Tracks ms (onward ms h w) (moved ms v w)
   unfolding onward
   same-move p = by (ticked ms v w) ticked-right
     where

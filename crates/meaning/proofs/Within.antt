@@ -14,14 +14,14 @@ use borrow.Author.Tests.{ltb-false}
 use Rattle.lexer.specs.Bytes.{Entry, same, lookup}
 use Rattle.lexer.specs.Tokens as token
 use Rattle.lexer.specs.Tokens.{Token}
-use Rattle.meaning.specs.Expression.{Literal, wire, wire-store, wire-past, store, Write, from-wire, from-number, Exp, letter, seq, alt, star, pipe, storeTests}
+use Rattle.meaning.specs.Expression.{Literal, wire, wire-store, wire-past, store, Write, from-wire, from-number, Exp, letter, seq, alt, star, pipe, storeTests, asProduction}
 use Rattle.meaning.specs.Answers.{value}
 use Rattle.meaning.specs.Reading
-use Rattle.meaning.specs.Reading.{Level, Open, Context, inDefine, inLetter, Expect, statement, sign, nought, closing, inputName, inputMore, inputHigh, storeName, storeMore, storeHigh, storeFirst, defineName, operand, literal, negated, wireMore, bitIndex, wireEquals, storeEquals, pastName, literalMore, writeStore, writeValue, writeMore, operandMore, monitorName, monitorMore, textEnd, read, tooMany, whole}
-use Rattle.meaning.specs.Names.{Meaning, anInput, aStore, aDefine, aProduction, Names, Declaration, newInput, newStore, newDefine, newProduction, declare, Program}
+use Rattle.meaning.specs.Reading.{Level, Open, Context, inDefine, inLetter, Expect, statement, sign, keyword, nought, closing, inputName, inputMore, inputHigh, storeName, storeMore, storeHigh, storeFirst, defineName, limitName, limitMost, limitWindow, operand, literal, negated, wireMore, bitIndex, wireEquals, storeEquals, pastName, literalMore, writeStore, writeValue, writeMore, operandMore, monitorName, monitorMore, textEnd, read, tooMany, whole}
+use Rattle.meaning.specs.Names.{Meaning, anInput, aStore, aDefine, aProduction, Names, Declaration, newInput, newStore, newDefine, newProduction, newLimit, declare, Program}
 use Rattle.meaning.specs.Grammar.{Stands}
 use Rattle.meaning.proofs.ListLaws.{clash}
-use Rattle.meaning.proofs.Outcomes.{LiteralNext, more-literals, first-literal, BehindLiterals, literals, one-wire, BehindOperand, operands, letters, WriteNext, first-write, more-writes, BySign, expected, closed, narrow-input, wide-input, narrow-store, wide-store, opened, negation, index, compared, joined, defined, writing, written, starred, piped, followed, or-else, level-closed, produced, more-monitors, all-monitors, ByNumber, zero-read, input-width, store-width, first-value, bit-index, wire-value, store-value, number-written, ByName, new-input, new-store, new-define, new-production, of-wire, of-store, of-define, of-production, of-negated, equal-store, store-written, wire-written, monitored, Next, by-sign, by-number, by-name, by-word, kept, same-wire, ByWord, begins-input, begins-store, begins-define, begins-monitor, compared-past}
+use Rattle.meaning.proofs.Outcomes.{LiteralNext, more-literals, first-literal, BehindLiterals, literals, one-wire, BehindOperand, operands, letters, WriteNext, first-write, more-writes, BySign, expected, closed, narrow-input, wide-input, narrow-store, wide-store, opened, negation, index, compared, joined, defined, writing, written, starred, piped, followed, or-else, level-closed, produced, more-monitors, all-monitors, ByNumber, zero-read, input-width, store-width, first-value, bit-index, wire-value, store-value, number-written, limit-most, limit-window, ByName, limited, new-input, new-store, new-define, new-production, of-wire, of-store, of-define, of-production, of-negated, equal-store, store-written, wire-written, monitored, Next, by-sign, by-number, by-name, by-word, kept, same-wire, ByWord, expected-word, begins-limit, begins-input, begins-store, begins-define, begins-monitor, compared-past}
 
 -- ---- lists
 
@@ -147,10 +147,12 @@ DeclarationWithin n k (newInput s width) = n + width ≤ 64
 DeclarationWithin n k (newStore s width v) = (k < 16) × (width ≤ 64) × (v < 2 ^ 64)
 DeclarationWithin n k (newDefine s ls) = Each (Within n k) ls
 DeclarationWithin n k (newProduction s e) = ExpWithin n k e
+DeclarationWithin n k (newLimit p m w) = Unit {0}
 
 abbrev ExpectWithin : (n k : ℕ) → Expect → Type 0
 ExpectWithin n k statement = Unit {0}
 ExpectWithin n k (sign i x) = ExpectWithin n k x
+ExpectWithin n k (keyword w x) = ExpectWithin n k x
 ExpectWithin n k (nought x) = ExpectWithin n k x
 ExpectWithin n k (closing d) = DeclarationWithin n k d
 ExpectWithin n k inputName = Unit {0}
@@ -161,6 +163,9 @@ ExpectWithin n k (storeMore s) = k < 16
 ExpectWithin n k (storeHigh s) = k < 16
 ExpectWithin n k (storeFirst s w) = (k < 16) × (w ≤ 64)
 ExpectWithin n k defineName = Unit {0}
+ExpectWithin n k limitName = Unit {0}
+ExpectWithin n k (limitMost p) = Unit {0}
+ExpectWithin n k (limitWindow p m) = Unit {0}
 ExpectWithin n k (operand o) = OpenWithin n k o
 ExpectWithin n k (literal c ls) = LiteralsWithin n k c ls 0
 ExpectWithin n k (negated c ls) = LiteralsWithin n k c ls 0
@@ -196,6 +201,15 @@ found n k name (x ∷ es) m (g, gs) e = at (same name (x .spelling)) e (λ f. fo
     at true f rest = let q : x .meaning ≡ m = cc in subst (MeaningWithin n k) q g
     at false f rest = rest f
 
+-- a production's letters are those of its expression
+production-within : (n k i : ℕ) (e : Exp) → ExpWithin n k e → ExpWithin n k (asProduction i e)
+unfolding asProduction
+production-within n k i (letter l) g = g
+production-within n k i (seq e f) g = g
+production-within n k i (alt e f) g = g
+production-within n k i (star e) g = g
+production-within n k i (pipe e f) g = g
+
 declared-within : (d : Declaration) (ns : Names) → NamesWithin ns → DeclarationWithin (ns .wires) (storesOf ns) d → NamesWithin (declare d ns)
 unfolding declare
 declared-within (newInput s w) ns g h =
@@ -217,7 +231,8 @@ declared-within (newStore s w v) ns g (few, wide, fits) =
       values = each-more (λ x. x < 2 ^ 64) (ns .initial) v (g .values) fits;
     }
 declared-within (newDefine s ls) ns g h = record { wires = g .wires; names = (h, g .names); stores = g .stores; values = g .values }
-declared-within (newProduction s e) ns g h = record { wires = g .wires; names = (h, g .names); stores = g .stores; values = g .values }
+declared-within (newProduction s e) ns g h = record { wires = g .wires; names = (production-within (ns .wires) (storesOf ns) (length (ns .declared)) e h, g .names); stores = g .stores; values = g .values }
+declared-within (newLimit p m w) ns g h = record { wires = g .wires; names = g .names; stores = g .stores; values = g .values }
 
 -- ---- literals
 
@@ -340,6 +355,8 @@ module _ (ns : Names) (names : NamesWithin ns) where
   by-number-within (bit-index {c} {ls} {i} {lo} {v} h) (g, k, b) = literal-behind c ls (wire (lo + i) 1 v) g (b, omega arith)
   by-number-within (wire-value {c} {ls} {lo} {w} {v} h) (g, k) = literal-behind c ls (wire lo w v) g (h, k)
   by-number-within (store-value {c} {ls} {n} {v} h) (g, b, l) = literal-behind c ls (store n v) g (b, fits-word l h)
+  by-number-within (limit-most h) g = tt
+  by-number-within (limit-window h f) g = tt
   by-number-within (number-written {ls} {ws} {n} {v} h) (o, g, few, b, l) = (o, write-behind ls ws (from-number n v) g few (b, fits-word l h))
 
   module _ (s : List ℕ) where
@@ -366,14 +383,17 @@ module _ (ns : Names) (names : NamesWithin ns) where
     by-name-within (store-written {n} {w} d e h) g = let (o, l) = write-next d g in let (i, j) = stands-within (aStore n w) e in (o, l, h, i, j)
     by-name-within (wire-written {ls} {ws} {n} {lo} {m} e h) (o, g, few, b, l) =
         (o, write-behind ls ws (from-wire n lo m) g few (b, stands-within (anInput lo m) e))
+    by-name-within (limited e h) g = tt
     by-name-within (monitored {ms} {e} h f) g = each-more (ExpWithin (ns .wires) (storesOf ns)) ms e g (stands-within (aProduction e) h)
 
-within-word : (n k : ℕ) {w : token.Word} {x y : Expect} → ByWord w x y → ExpectWithin n k x → ExpectWithin n k y
+within-word : (n k : ℕ) {ns : Names} {w : token.Word} {x y : Expect} → ByWord ns w x y → ExpectWithin n k x → ExpectWithin n k y
 within-word n k begins-input g = tt
 within-word n k begins-store g = tt
 within-word n k begins-define g = tt
 within-word n k begins-monitor g = tt
 within-word n k compared-past g = g
+within-word n k expected-word g = g
+within-word n k (begins-limit few) g = tt
 
 next-within : {ns : Names} {place : ℕ} {u : Token} {x y : Expect} {ms : Names} → Next ns place u x ms y → Kept ns x → Kept ms y
 next-within (by-sign n) (names, g) = by-sign-within _ names n g

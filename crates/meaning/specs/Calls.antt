@@ -10,7 +10,9 @@ use Rattle.meaning.specs.Lists.{any, count, only}
 use Rattle.refusals.specs.Numbers as number
 use Rattle.meaning.specs.Expression.{Exp}
 use Rattle.meaning.specs.Touched.{touched}
-use Rattle.meaning.specs.Fit.{Verdict, ok as clean, bad as broken, History, start, onward, history, judged}
+use Rattle.meaning.specs.Names.{Limit}
+use Rattle.meaning.specs.Fit.{Verdict, ok as clean, bad as broken, History, start, onward, history}
+use Rattle.meaning.specs.Limits.{judged}
 
 -- W2: "A call is a look or a take, and hands over a watch and a 64-bit word"
 pub data Call : Type 0 where
@@ -21,10 +23,10 @@ abbrev pub wordOf : Call → ℕ
 wordOf (look w) = w
 wordOf (take w) = w
 
--- W2: "The answer is ok, bad with a monitor, or refused with a number". X12: a refused call "by itself" has place 0.
+-- W2: "The answer is ok, bad with the number of a monitor or a limit, or refused with a number". X12: a refused call "by itself" has place 0.
 pub data Reply : Type 0 where
   ok : Reply
-  bad : (monitor : ℕ) → Reply
+  bad : (number : ℕ) → Reply
   refused : (number place : ℕ) → Reply
 
 abbrev pub replyOf : Verdict → Reply
@@ -72,7 +74,7 @@ opening s = record { inner = s; oks = 0; stopped = false }
 module _ {S : Type 0} where
   -- The answer to a word, looked at or taken; W10, of a look: "Its answer is the one that a take of its word would get in its
   -- place". X11: "a call by 16, 17 and then 15". W3: "an earlier take on this watch was bad", W4: "none was bad, and 1,000,000
-  -- earlier takes were ok", W5: "neither of these, and the word has a bit above the wires", W6: "Every other call is judged."
+  -- earlier takes were ok", W5: "neither of these, and the word has a bit above the wires", W6: "Every other call is judged"
   -- The state holds just what this asks of the earlier takes: only ok adds to oks, and only bad sets stopped.
   unfoldable pub reply : (judge : S → ℕ → Verdict) (wires : ℕ) → State S → ℕ → Reply
   reply judge wires s w =
@@ -105,14 +107,14 @@ module _ {S : Type 0} where
   stateFrom judge move wires s [] = s
   stateFrom judge move wires s (c ∷ cs) = stateFrom judge move wires (afterCall move s c (reply judge wires s (wordOf c))) cs
 
--- the replies that the words' meaning fixes, from the monitors, the first store values and the number of wires;
+-- the replies that the words' meaning fixes, from the limits, the monitors, the first store values and the number of wires;
 -- W11: "the first gets the watch that opening gave"
-abbrev pub replies : List Exp → List ℕ → ℕ → List Call → List Reply
-replies ms initial wires cs = repliesFrom (judged ms) (onward ms) wires (opening (start initial)) cs
+abbrev pub replies : List Limit → List Exp → List ℕ → ℕ → List Call → List Reply
+replies ls ms initial wires cs = repliesFrom (judged ls ms) (onward ms) wires (opening (start initial)) cs
 
 -- and what then stands: the history of the words of ok takes with the store values, their number, and whether a take was bad
-abbrev pub standing : List Exp → List ℕ → ℕ → List Call → State History
-standing ms initial wires cs = stateFrom (judged ms) (onward ms) wires (opening (start initial)) cs
+abbrev pub standing : List Limit → List Exp → List ℕ → ℕ → List Call → State History
+standing ls ms initial wires cs = stateFrom (judged ls ms) (onward ms) wires (opening (start initial)) cs
 
 -- ---- the same clauses, of one call and the takes before it ----
 
@@ -136,17 +138,17 @@ judgedWords (w ∷ ws) [] = []
 judgedWords (w ∷ ws) (r ∷ rs) = only (not (isRefused r)) (w ∷ []) ++ judgedWords ws rs
 
 -- W3 to W6, and W10 since it is the same for both: a call with word w, look or take, is rightly answered with r after takes of the words ws with the replies rs
-pub record Rightly (ms : List Exp) (initial : List ℕ) (wires : ℕ) (ws : List ℕ) (rs : List Reply) (w : ℕ) (r : Reply) : Type 0 where
+pub record Rightly (ls : List Limit) (ms : List Exp) (initial : List ℕ) (wires : ℕ) (ws : List ℕ) (rs : List Reply) (w : ℕ) (r : Reply) : Type 0 where
   pub stopped : r ≡ refused number.stopped 0 ↔ T (any isBad rs)
   pub full : r ≡ refused number.full 0 ↔ (T (not (any isBad rs)) × (count isOk rs ≡ mostTicks))
   pub stray : r ≡ refused number.stray 0 ↔ (T (not (any isBad rs)) × (count isOk rs ≡ mostTicks → ⊥) × (2 ^ wires ≤ w))
-  pub other : T (not (any isBad rs)) → (count isOk rs ≡ mostTicks → ⊥) → w < 2 ^ wires → r ≡ replyOf (judged ms (history ms initial (judgedWords ws rs)) w)
+  pub other : T (not (any isBad rs)) → (count isOk rs ≡ mostTicks → ⊥) → w < 2 ^ wires → r ≡ replyOf (judged ls ms (history ms initial (judgedWords ws rs)) w)
 
 -- W11: every call of the list is, by the takes before it
-abbrev pub AllRightly : List Exp → List ℕ → ℕ → List Call → List Reply → Type 0
-AllRightly ms initial wires cs rs =
+abbrev pub AllRightly : List Limit → List Exp → List ℕ → ℕ → List Call → List Reply → Type 0
+AllRightly ls ms initial wires cs rs =
     (n : ℕ) → n < length cs
-    → Rightly ms initial wires (taken (upTo n cs)) (takenReplies (upTo n cs) (upTo n rs)) (wordOf (getD cs n (take 0))) (getD rs n ok)
+    → Rightly ls ms initial wires (taken (upTo n cs)) (takenReplies (upTo n cs) (upTo n rs)) (wordOf (getD cs n (take 0))) (getD rs n ok)
 
 -- ---- the rows that takes touch ----
 
@@ -173,7 +175,7 @@ Tells n (take w) (looked r) = ⊥
 Tells n (take w) (took r k) = k ≡ touchedBy r n
 
 -- W11 and W12: every call of the list is rightly answered, by the takes before it
-abbrev pub AllAnswered : List Exp → List ℕ → ℕ → List Call → List Answer → Type 0
-AllAnswered ms initial wires cs xs =
-    AllRightly ms initial wires cs (map replyIn xs)
-    × ((n : ℕ) → n < length cs → Tells (touched ms (standing ms initial wires (upTo n cs) .inner .ticks)) (getD cs n (take 0)) (getD xs n (looked ok)))
+abbrev pub AllAnswered : List Limit → List Exp → List ℕ → ℕ → List Call → List Answer → Type 0
+AllAnswered ls ms initial wires cs xs =
+    AllRightly ls ms initial wires cs (map replyIn xs)
+    × ((n : ℕ) → n < length cs → Tells (touched ms (standing ls ms initial wires (upTo n cs) .inner .ticks)) (getD cs n (take 0)) (getD xs n (looked ok)))

@@ -124,8 +124,36 @@ feet =
     ∷ abc "a" (1 ∷ 8 ∷ []) "rows 1 letters 1\n0 0000000000000001 ok\nrefused 15 1\n"
     ∷ []
 
+-- F29 to F31, W6, S14 and G22: limits, each with a reading by which the sheet would be another
+abbrev pub limited : List Example
+limited =
+    -- a window one tick too short: tick 2 would be ok
+    with "a" "p -> t || !a; limit t to 1 in 3; monitor p;" (1 ∷ 0 ∷ 1 ∷ [])
+    "rows 3 letters 2\n0 0000000000000001 ok\n1 0000000000000000 ok\n2 0000000000000001 bad 32\nmet 0 0 1\nmet 0 1 1\ntotal 2\n"
+    -- one tick too long: tick 3 would be bad
+    ∷ with "a" "p -> t || !a; limit t to 1 in 3; monitor p;" (1 ∷ 0 ∷ 0 ∷ 1 ∷ [])
+    "rows 3 letters 2\n0 0000000000000001 ok\n1 0000000000000000 ok\n2 0000000000000000 ok\n3 0000000000000001 ok\nclean 4\nmet 0 0 2\nmet 0 1 2\ntotal 4\n"
+    -- a tick counted for each letter met at it: tick 0 would be bad
+    ∷ with "a" "limit t to 1 in 2; monitor t, t;" (1 ∷ []) "rows 2 letters 2\n0 0000000000000001 ok\nclean 1\nmet 0 0 1\nmet 1 0 1\ntotal 2\n"
+    -- the limit named before a bad monitor: tick 1 would be bad 32
+    ∷ with "a" "p -> t || !a; q -> b; limit t to 1 in 2; monitor p, q;" (3 ∷ 1 ∷ [])
+    "rows 4 letters 3\n0 0000000000000003 ok\n1 0000000000000001 bad 1\nmet 0 0 1\nmet 0 1 0\nmet 1 0 1\ntotal 2\n"
+    -- copies that did not come through the production counted: tick 1 would be bad
+    ∷ with "a" "q -> t; p -> t, t; limit q to 1 in 2; monitor p;" (1 ∷ 1 ∷ 1 ∷ [])
+    "rows 3 letters 2\n0 0000000000000001 ok\n1 0000000000000001 ok\n2 0000000000000001 ok\nclean 3\nmet 0 0 2\nmet 0 1 1\ntotal 3\n"
+    -- copies by way of another production not counted, or those above the limit: tick 1 would be ok
+    ∷ with "a" "q -> t; p -> q, q; limit t to 1 in 2; monitor p;" (1 ∷ 1 ∷ [])
+    "rows 3 letters 2\n0 0000000000000001 ok\n1 0000000000000001 bad 32\nmet 0 0 1\nmet 0 1 0\ntotal 1\n"
+    -- another limit than the lowest named: 34
+    ∷ with "a" "p -> t || !a; limit t to 2 in 9; limit t to 0 in 1; limit t to 0 in 5; monitor p;" (0 ∷ 1 ∷ [])
+    "rows 3 letters 2\n0 0000000000000000 ok\n1 0000000000000001 bad 33\nmet 0 0 0\nmet 0 1 1\ntotal 1\n"
+    -- a stretch as long as its number of ticks; a production that is not a single letter
+    ∷ with "a" "limit t to 2 in 2; monitor t;" [] "refused 21 51\n"
+    ∷ with "a" "p -> t, t; limit p to 1 in 2; monitor p;" [] "refused 22 52\n"
+    ∷ []
+
 abbrev pub examples : List Example
-examples = proving ++ (sample ∷ misreadings ++ pasts ++ overlaps ++ feet)
+examples = proving ++ (sample ∷ misreadings ++ pasts ++ overlaps ++ feet ++ limited)
 
 -- ---- looks and takes
 

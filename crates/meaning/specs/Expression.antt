@@ -1,5 +1,6 @@
 -- Letters and expressions, productions already opened (docs/REFERENCE.md, S1 to S3, with the forms of G1).
 use mathlib.Core.List.{List, [], _∷_, _++_}
+use mathlib.Core.Option.{Option, none, some}
 use mathlib.Core.Path.{_≡_}
 use Prim.Native.Nat.{ℕ, suc, _+_, _/_, _%_, _^_}
 
@@ -20,11 +21,13 @@ pub data Write : Type 0 where
   from-number : (store number : ℕ) → Write  -- store <- number;
 
 -- G14: "A letter is one or more literals joined by `&`, and then perhaps braces with one or two writes."; number is its
--- own in its monitor (S2).
+-- own in its monitor (S2). S14: "A letter knows the productions of a single letter that it came through": their numbers
+-- (N8), the one that it came through last in front.
 pub record Letter : Type 0 where
   pub number : ℕ
   pub literals : List Literal
   pub writes : List Write
+  pub through : List ℕ
 
 -- N7: "literals `wire == store` and `store == number`", and no others
 unfoldable pub storeTests : List Literal → ℕ
@@ -86,13 +89,13 @@ rows (pipe e f) = 1 + rows e + rows f
 
 -- a letter that is read; its number is given when the program is opened (S2)
 abbrev pub aLetter : List Literal → List Write → Exp
-aLetter ls ws = letter (record { number = 0; literals = ls; writes = ws })
+aLetter ls ws = letter (record { number = 0; literals = ls; writes = ws; through = [] })
 
 -- ---- S2: "The letters of a monitor are numbered from 0, from left to right after opening." ----
 
 -- S2: the same expression with its letters numbered from k; a monitor's are from 0
 unfoldable pub renumbered : ℕ → Exp → Exp
-renumbered k (letter l) = letter (record { number = k; literals = l .literals; writes = l .writes })
+renumbered k (letter l) = letter (record { number = k; literals = l .literals; writes = l .writes; through = l .through })
 renumbered k (seq e f) = seq (renumbered k e) (renumbered (k + size e) f)
 renumbered k (alt e f) = alt (renumbered k e) (renumbered (k + size e) f)
 renumbered k (star e) = star (renumbered k e)
@@ -105,3 +108,26 @@ Ordered k (seq e f) = Ordered k e × Ordered (k + size e) f
 Ordered k (alt e f) = Ordered k e × Ordered (k + size e) f
 Ordered k (star e) = Ordered k e
 Ordered k (pipe e f) = Ordered k e × Ordered (k + size e) f
+
+-- ---- S14: the productions that a letter came through ----
+
+-- The expression e as that of the production with the number k: a single letter comes through it. The letters of any other
+-- production have come through none with it that could be limited (G22).
+unfoldable pub asProduction : ℕ → Exp → Exp
+asProduction k (letter l) = letter (record { number = l .number; literals = l .literals; writes = l .writes; through = k ∷ l .through })
+asProduction k (seq e f) = seq e f
+asProduction k (alt e f) = alt e f
+asProduction k (star e) = star e
+asProduction k (pipe e f) = pipe e f
+
+abbrev pub newest : List ℕ → Option ℕ
+newest [] = none
+newest (k ∷ ks) = some k
+
+-- G22: the number of the production that has the expression e, if that is "a single letter, without an operator"
+unfoldable pub single : Exp → Option ℕ
+single (letter l) = newest (l .through)
+single (seq e f) = none
+single (alt e f) = none
+single (star e) = none
+single (pipe e f) = none

@@ -1,4 +1,4 @@
--- What monitors mean (docs/REFERENCE.md, F1 to F22 and W6): which words fit, what each tick writes, and the verdict on each word.
+-- What monitors mean (docs/REFERENCE.md, F1 to F22 and W6): which words fit, what each tick writes, and the verdict of the monitors on words.
 use mathlib.Core.List.{List, [], _∷_, _++_, map}
 use mathlib.Core.Bool.{Bool, not, cond}
 use Prim.Native.Nat.{ℕ, zero, suc}
@@ -167,16 +167,12 @@ history ms initial ws = carry (onward ms) (start initial) ws
 
 -- ---- verdicts ----
 
--- W6: ok, or bad with a monitor
+-- W6: ok, or bad with the number of a monitor, or of a limit as specs/Limits has it
 pub data Verdict : Type 0 where
   ok : Verdict
-  bad : (monitor : ℕ) → Verdict
+  bad : (number : ℕ) → Verdict
 
 -- W6: "the lowest monitor that does not fit", counted from i
 unfoldable pub verdict : ℕ → List Exp → List Tick → Verdict
 verdict i [] ts = ok
 verdict i (m ∷ ms) ts = cond (fits m ts) (verdict (suc i) ms ts) (bad i)
-
--- W6: the verdict on word w, "the words so far with this one behind them"
-abbrev pub judged : List Exp → History → ℕ → Verdict
-judged ms h w = verdict 0 ms (h .ticks ++ tick h w ∷ [])

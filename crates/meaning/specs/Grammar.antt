@@ -1,4 +1,4 @@
--- The grammar of rule texts (docs/REFERENCE.md, G1 to G21 and N1 to N7), without an order of reading: what a list of tokens is, and what it means.
+-- The grammar of rule texts (docs/REFERENCE.md, G1 to G22 and N1 to N8), without an order of reading: what a list of tokens is, and what it means.
 -- `IsX ns ts us m` says that the tokens ts are an X that means m, and us behind it; ns are the names declared above. A form stands below those that it is made of, so that
 -- what G1 has first is the last here. Names, `declare` and the meanings are those of specs/Names; proofs/GrammarExact shows that a text is read as a program exactly
 -- if it is one by this grammar. Assumes nothing.
@@ -8,10 +8,10 @@ use mathlib.Core.Path.{_≡_}
 use Prim.Native.Nat.{ℕ, suc, _+_, _^_, _≤_, _<_}
 use lib.ListN.{length}
 use Rattle.lexer.specs.Bytes.{lookup}
-use Rattle.lexer.specs.Tokens.{Token, Placed, name, word, number, sign, end, input, internal, define, monitor, past, ruleWords, tokens}
-use Rattle.meaning.specs.Expression.{Literal, wire, wire-store, wire-past, store, Write, from-wire, from-number, Exp, seq, alt, star, pipe, storeTests, aLetter}
+use Rattle.lexer.specs.Tokens.{Token, Placed, name, word, number, sign, end, input, internal, define, monitor, past, limit, to, inside, ruleWords, tokens}
+use Rattle.meaning.specs.Expression.{Literal, wire, wire-store, wire-past, store, Write, from-wire, from-number, Exp, seq, alt, star, pipe, storeTests, aLetter, single}
 use Rattle.lexer.specs.Signs.{semicolon, comma, atSign, star as asterisk, ampersand, bang, leftParen, rightParen, leftBracket, rightBracket, leftBrace, rightBrace, colon, equals, doubleEquals, doubleBar, rightArrow, leftArrow}
-use Rattle.meaning.specs.Names.{Meaning, anInput, aStore, aDefine, aProduction, Names, noNames, Declaration, newInput, newStore, newDefine, newProduction, declare, Program}
+use Rattle.meaning.specs.Names.{Meaning, anInput, aStore, aDefine, aProduction, Names, noNames, Declaration, newInput, newStore, newDefine, newProduction, newLimit, declare, Program, programOf}
 
 -- N2: "its name can be used only behind that": the name s is declared above, and stands for m
 abbrev pub Stands : Names → List ℕ → Meaning → Type 0
@@ -138,6 +138,9 @@ pub data IsDeclaration (ns : Names) : List Token → List Token → Declaration 
   -- N -> expression;    G7: "`N -> ..;` is a production"
   a-production : {s : List ℕ} {e : Exp} {ts us : List Token} → Free ns s → IsExpression ns ts (sign semicolon ∷ us) e
       → IsDeclaration ns (name s ∷ sign rightArrow ∷ ts) us (newProduction s e)
+  -- limit P to n in w;    G22: P is "a production above that is a single letter", "n is at most 1,023, and w above n and at most 1,024"; N6: "limits | 8"
+  a-limit : {s : List ℕ} {e : Exp} {p n w : ℕ} {us : List Token} → length (ns .limits) < 8 → Stands ns s (aProduction e) → single e ≡ some p → n ≤ 1023 → n < w → w ≤ 1024
+      → IsDeclaration ns (word limit ∷ name s ∷ word to ∷ number n ∷ word inside ∷ number w ∷ sign semicolon ∷ us) us (newLimit p n w)
 
 -- ---- the text
 
@@ -153,7 +156,7 @@ pub data IsText : Names → List Token → Program → Type 0 where
   declares : {ns : Names} {d : Declaration} {p : Program} {ts us : List Token} → IsDeclaration ns ts us d → IsText (declare d ns) us p → IsText ns ts p
   -- monitor names;    N6: "stores; monitors | 16; 32"
   monitors : {ns : Names} {ms : List Exp} {ts : List Token} → IsMonitors ns ts (sign semicolon ∷ end ∷ []) ms → length ms ≤ 32
-      → IsText ns (word monitor ∷ ts) (record { wires = ns .wires; initial = ns .initial; monitors = ms })
+      → IsText ns (word monitor ∷ ts) (programOf ns ms)
 
 -- the tokens without their places
 abbrev pub plainTokens : List Placed → List Token

@@ -15,6 +15,7 @@ pub mod Numbered
 pub mod Fit
 pub mod Touched
 pub mod Totals
+pub mod Limits
 pub mod Calls
 pub mod Sheet
 -- sheets of texts and traces, which the definitions above are computed to give

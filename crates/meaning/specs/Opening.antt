@@ -10,13 +10,14 @@ use Rattle.meaning.specs.ShapeTests.{Shape, accepted, turned-away, shape
 use Rattle.meaning.specs.Answers.{Answer, value, refused, letterOf}
 use Rattle.refusals.specs.Numbers.{longRun}
 use Rattle.meaning.specs.Reading.{read}
-use Rattle.meaning.specs.Names.{Program}
+use Rattle.meaning.specs.Names.{Limit, Program}
 
 -- What opening answers with: the program, its letters numbered from 0 within each monitor (S2), and both counts (S3).
 pub record Opened : Type 0 where
   pub wires : ℕ
   pub initial : List ℕ
   pub monitors : List Exp
+  pub limits : List Limit
   pub rowCount : ℕ
   pub letterCount : ℕ
 
@@ -38,6 +39,7 @@ asOpened p = record {
   wires = p .wires;
   initial = p .initial;
   monitors = map (renumbered 0) (p .monitors);
+  limits = p .limits;
   rowCount = total rows (p .monitors);
   letterCount = total size (p .monitors);
 }

@@ -7,7 +7,6 @@ use Rattle.meaning.specs.Lists.{each, any, only, member}
 use Rattle.meaning.specs.Expression.{Exp, letter, seq, alt, star, pipe, letters, own}
 use Rattle.meaning.specs.Shape.{last}
 use Rattle.meaning.specs.Fit.{Tick, meets, among, writeMet, Verdict, ok, bad}
-use Rattle.meaning.specs.Calls.{Call, Reply, opening, repliesFrom}
 
 -- ---- one monitor ----
 
@@ -173,9 +172,3 @@ told (wrong i) = bad i
 
 abbrev pub answer : List Exp → Watch → ℕ → Verdict
 answer ms v w = told (ticked ms v w)
-
--- ---- lists of calls ----
-
--- the replies of the machine of active positions
-abbrev pub machineReplies : List Exp → List ℕ → ℕ → List Call → List Reply
-machineReplies ms initial wires cs = repliesFrom (answer ms) (moved ms) wires (opening (opened ms initial)) cs

@@ -11,10 +11,10 @@ use Rattle.lexer.specs.Bytes.{same, lookup}
 use Rattle.lexer.specs.Signs.{semicolon, comma, atSign, star as asterisk, ampersand, bang, leftParen, rightParen, leftBracket, rightBracket, leftBrace, rightBrace, colon, equals, doubleEquals, doubleBar, rightArrow, leftArrow}
 use Rattle.lexer.specs.Tokens as token
 use Rattle.lexer.specs.Tokens.{Token, Placed, ruleWords, tokens}
-use Rattle.meaning.specs.Names.{Meaning, anInput, aStore, aDefine, aProduction, Names, noNames, Declaration, newInput, newStore, newDefine, newProduction, declare, Program, programOf}
-use Rattle.meaning.specs.Expression.{storeTests, aLetter, Literal, wire, wire-store, wire-past, store, Write, from-wire, from-number, Exp, seq, alt, star, pipe}
+use Rattle.meaning.specs.Names.{Meaning, anInput, aStore, aDefine, aProduction, Names, noNames, Declaration, newInput, newStore, newDefine, newProduction, newLimit, declare, Program, programOf}
+use Rattle.meaning.specs.Expression.{storeTests, aLetter, single, Literal, wire, wire-store, wire-past, store, Write, from-wire, from-number, Exp, seq, alt, star, pipe}
 use Rattle.meaning.specs.Answers.{Answer, value, refused, byte}
-use Rattle.refusals.specs.Numbers.{overlong, misplaced, unknown, twice, oversize, crowded}
+use Rattle.refusals.specs.Numbers.{overlong, misplaced, unknown, twice, oversize, crowded, stretch, notSingle}
 
 -- ---- an expression that is being read
 
@@ -72,6 +72,8 @@ pub data Expect : Type 0 where
   statement : Expect
   -- this sign, and then what follows it
   sign : ℕ → Expect → Expect
+  -- this reserved word, and then what follows it
+  keyword : token.Word → Expect → Expect
   -- the number 0, and then what follows it
   nought : Expect → Expect
   -- `;`, with which the declaration stands
@@ -87,6 +89,10 @@ pub data Expect : Type 0 where
   storeFirst : List ℕ → (width : ℕ) → Expect
   -- behind `define`
   defineName : Expect
+  -- behind `limit`, and its two numbers
+  limitName : Expect
+  limitMost : (production : ℕ) → Expect
+  limitWindow : (production most : ℕ) → Expect
   -- what an operator works on: a letter, a production's name or a parenthesis
   operand : Open → Expect
   -- a literal behind those there are, and its name behind `!`
@@ -161,17 +167,24 @@ ifName (token.sign n) then other = other
 ifName token.end then other = other
 ifName (token.refused n) then other = other
 
-abbrev pub isPast : Token → Bool
-isPast (token.name s) = false
-isPast (token.word token.input) = false
-isPast (token.word token.internal) = false
-isPast (token.word token.define) = false
-isPast (token.word token.monitor) = false
-isPast (token.word token.past) = true
-isPast (token.number n) = false
-isPast (token.sign n) = false
-isPast token.end = false
-isPast (token.refused n) = false
+-- the reserved words by number, in the order of T4
+abbrev pub ordinal : token.Word → ℕ
+ordinal token.input = 0
+ordinal token.internal = 1
+ordinal token.define = 2
+ordinal token.monitor = 3
+ordinal token.past = 4
+ordinal token.limit = 5
+ordinal token.to = 6
+ordinal token.inside = 7
+
+abbrev pub isWord : token.Word → Token → Bool
+isWord w (token.name s) = false
+isWord w (token.word v) = eqb (ordinal w) (ordinal v)
+isWord w (token.number n) = false
+isWord w (token.sign n) = false
+isWord w token.end = false
+isWord w (token.refused n) = false
 
 -- X4: "A reserved word is no name: where a name is wanted it is 3."
 unfoldable pub onName : Placed → (List ℕ → Step) → Step
@@ -311,19 +324,33 @@ writtenStore ns o ls ws t =
 abbrev pub toZero : Expect → Expect
 toZero x = sign colon (nought (sign rightBracket x))
 
--- a word that begins a statement; `past` begins none
+-- ---- limits
+
+-- G22: "any other production is refusal 22, at its name"
+abbrev pub ofSingle : Names → Placed → Option ℕ → Step
+ofSingle ns t none = atToken notSingle t
+ofSingle ns t (some p) = go ns (keyword token.to (limitMost p))
+
+-- X7: 7 "at the word `limit` of a ninth limit", whatever follows it
+abbrev pub newLimitName : Names → Placed → Step
+newLimitName ns t = unless (leb 8 (length (ns .limits))) crowded t (go ns limitName)
+
+-- a word that begins a statement; `past`, `to` and `in` begin none
 abbrev pub ofWord : Names → Placed → token.Word → Step
 ofWord ns t token.input = go ns inputName
 ofWord ns t token.internal = go ns storeName
 ofWord ns t token.define = go ns defineName
 ofWord ns t token.monitor = go ns (monitorName [])
 ofWord ns t token.past = notHere t
+ofWord ns t token.limit = newLimitName ns t
+ofWord ns t token.to = notHere t
+ofWord ns t token.inside = notHere t
 
 -- the name of a production begins its statement; X5: 5 "before it is seen whether `->` follows"
 abbrev pub ofProduction : Names → Placed → Step
 ofProduction ns t = newName ns t false false (λ s. go ns (sign rightArrow (operand (record { name = s; level = newLevel; outer = [] }))))
 
--- X8: "a statement's beginning | a reserved word but `past`; a name, for a production"
+-- X8: "a statement's beginning | `input`, `internal`, `define`, `limit`, `monitor`; a name, for a production"
 abbrev pub begin : Names → Placed → Token → Step
 begin ns t (token.name s) = ofProduction ns t
 begin ns t (token.word w) = ofWord ns t w
@@ -347,6 +374,7 @@ atEnd ns ms t (token.refused n) = notHere t
 unfoldable pub step : Names → Expect → Placed → Step
 step ns statement t = begin ns t (t .token)
 step ns (sign k x) t = choose (is k t) (go ns x) (notHere t)
+step ns (keyword w x) t = choose (isWord w (t .token)) (go ns x) (notHere t)
 step ns (nought x) t = onNumber t (λ n. choose (eqb n 0) (go ns x) (notHere t))
 step ns (closing d) t = choose (is semicolon t) (go (declare d ns) statement) (notHere t)
 step ns inputName t = newName ns t (leb 64 (ns .wires)) false (λ s. go ns (inputMore s))
@@ -360,6 +388,9 @@ step ns (storeHigh s) t =
     onNumber t (λ h. unless (ltb 63 h) oversize t (go ns (toZero (sign equals (storeFirst s (suc h))))))
 step ns (storeFirst s width) t = onNumber t (λ v. unless (leb (2 ^ width) v) oversize t (go ns (closing (newStore s width v))))
 step ns defineName t = newName ns t false false (λ s. go ns (sign equals (literal (inDefine s) [])))
+step ns limitName t = known ns t (noPair t) (noPair t) (noLiterals t) (λ e. ofSingle ns t (single e))
+step ns (limitMost p) t = onNumber t (λ n. unless (ltb 1023 n) stretch t (go ns (keyword token.inside (limitWindow p n))))
+step ns (limitWindow p n) t = onNumber t (λ w. unless (leb w n || ltb 1024 w) stretch t (go ns (closing (newLimit p n w))))
 step ns (operand o) t =
     choose (is leftParen t) (openParen ns o t)
     (choose (is bang t) (go ns (negated (inLetter o) []))
@@ -375,7 +406,7 @@ step ns (bitIndex c ls lo width v) t =
     onNumber t (λ i. unless (leb width i) oversize t (go ns (sign rightBracket (literalMore c (ls ++ (wire (lo + i) 1 v ∷ []))))))
 step ns (wireEquals c ls s lo width) t =
     ifNumber (t .token) (λ v. unless (leb (2 ^ width) v) oversize t (withLiteral ns c ls (wire lo width v)))
-    (choose (isPast (t .token)) (go ns (sign leftParen (pastName c ls s lo width)))
+    (choose (isWord token.past (t .token)) (go ns (sign leftParen (pastName c ls s lo width)))
     (known ns t (noPair t)
     (λ n w. unless (not (eqb w width)) oversize t (unless (tooMany c ls 1) crowded t (withLiteral ns c ls (wire-store lo width n))))
     (noLiterals t) (noExp t)))

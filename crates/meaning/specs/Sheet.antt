@@ -7,7 +7,8 @@ use lib.ListN.{length, drop}
 use Rattle.lexer.specs.Bytes.{bytes}
 use Rattle.meaning.specs.Answers.{Answer, value, refused, Place, byte, letterOf}
 use Rattle.meaning.specs.Opening.{Opened, Counts, countsOf, openText}
-use Rattle.meaning.specs.Fit.{History, start, onward, judged}
+use Rattle.meaning.specs.Fit.{History, start, onward}
+use Rattle.meaning.specs.Limits.{judged}
 use Rattle.meaning.specs.Totals.{totals, sum}
 use Rattle.meaning.specs.Calls as calls
 use Rattle.meaning.specs.Calls.{Reply, ok, bad, State, opening, reply, after}
@@ -50,7 +51,7 @@ line (f ∷ fs) = f ++ more fs
 unfoldable pub refusalLine : (number : ℕ) → (place : List ℕ) → List ℕ
 refusalLine number place = line (bytes "refused" ∷ decimal number ∷ map decimal place)
 
--- P5: "one field for a byte (1 to 7), two for monitor and letter (8 to 12)"
+-- P5: "one field for a byte (1 to 7, 21 and 22), two for monitor and letter (8 to 12)"
 abbrev pub placeNumbers : Place → List ℕ
 placeNumbers (byte n) = n ∷ []
 placeNumbers (letterOf m l) = m ∷ l ∷ []
@@ -64,7 +65,7 @@ abbrev pub firstLine : Answer Counts → List ℕ
 firstLine (value c) = countsLine c
 firstLine (refused number place) = refusalLine number (placeNumbers place)
 
--- P4: "`T W ok`, its number and word. One that is bad prints `T W bad M` with the monitor"
+-- P4: "`T W ok`, its number and word. One that is bad prints `T W bad M` with the number that W6 names"
 abbrev tickLine : ℕ → ℕ → List (List ℕ) → List ℕ
 tickLine t w verdict = line (decimal t ∷ hexadecimal 16 w ∷ verdict)
 
@@ -121,7 +122,7 @@ unfoldable pub tickLines : ℕ → Opened → State History → ℕ → List ℕ
 tickLines zero o s t rest before = cleanLine t ++ footAt o s
 tickLines (suc k) o s t rest before =
     onItem (readRecord rest before) t (footAt o s) (λ w n.
-    let r = reply (judged (o .monitors)) (o .wires) s w in
+    let r = reply (judged (o .limits) (o .monitors)) (o .wires) s w in
     let more = tickLines k o (after (onward (o .monitors)) s w r) (suc t) (drop n rest) w in
     onReply r t w more (footAt o s))
 

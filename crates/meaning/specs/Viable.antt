@@ -4,14 +4,15 @@
 use mathlib.Core.Path.{_≡_}
 use mathlib.Core.Bool.{false}
 use mathlib.Core.List.{List, [], _∷_, _++_}
+use mathlib.Core.Option.{some}
 use mathlib.Core.Logic.{_⊎_, _↔_}
 use Prim.Native.Nat.{ℕ, suc, _+_, _≤_, _<_}
 use lib.ListN.{length}
-use Rattle.lexer.specs.Tokens.{Token, Placed, ruleWords, tokenAt, tokens}
+use Rattle.lexer.specs.Tokens.{Token, Word, Placed, ruleWords, tokenAt, tokens}
 use Rattle.refusals.specs.Numbers.{oversize}
-use Rattle.meaning.specs.Expression.{Literal, Exp, storeTests}
-use Rattle.meaning.specs.Reading.{Context, inDefine, inLetter, Expect, statement, sign, nought, closing, inputName, inputMore, inputHigh, storeName, storeMore, storeHigh, storeFirst, defineName, operand, literal, negated, wireMore, bitIndex, wireEquals, storeEquals, pastName, literalMore, writeStore, writeValue, writeMore, operandMore, monitorName, monitorMore, textEnd, Step, go, finished, fault, tooMany, step}
-use Rattle.meaning.specs.Names.{anInput, aStore, aDefine, aProduction, Names, noNames, Program}
+use Rattle.meaning.specs.Expression.{Literal, Exp, storeTests, single}
+use Rattle.meaning.specs.Reading.{Context, inDefine, inLetter, Expect, statement, sign, keyword, nought, closing, inputName, inputMore, inputHigh, storeName, storeMore, storeHigh, storeFirst, defineName, limitName, limitMost, limitWindow, operand, literal, negated, wireMore, bitIndex, wireEquals, storeEquals, pastName, literalMore, writeStore, writeValue, writeMore, operandMore, monitorName, monitorMore, textEnd, Step, go, finished, fault, tooMany, step}
+use Rattle.meaning.specs.Names.{anInput, aStore, aDefine, aProduction, Names, noNames, Declaration, newInput, newStore, newDefine, newProduction, newLimit, Program}
 use Rattle.meaning.specs.Grammar.{Stands, IsText, plainTokens}
 
 -- A token that a text can have: it stands in one.
@@ -38,6 +39,10 @@ HasStore ns = (s : List ℕ) × (number width : ℕ) × Stands ns s (aStore numb
 abbrev pub HasProduction : Names → Type 0
 HasProduction ns = (s : List ℕ) × (e : Exp) × Stands ns s (aProduction e)
 
+-- a production of a single letter (G22)
+abbrev pub HasSingle : Names → Type 0
+HasSingle ns = (s : List ℕ) × (e : Exp) × (p : ℕ) × Stands ns s (aProduction e) × (single e ≡ some p)
+
 abbrev pub HasDefine : Names → (List Literal → Type 0) → Type 0
 HasDefine ns P = (s : List ℕ) × (ds : List Literal) × Stands ns s (aDefine ds) × P ds
 
@@ -53,6 +58,14 @@ Room more ns = length (ns .declared) + more ≤ 128
 abbrev pub Ends : ℕ → Names → Type 0
 Ends more ns = HasProduction ns ⊎ Room (suc more) ns
 
+-- how many names a declaration takes
+abbrev pub namesOf : Declaration → ℕ
+namesOf (newInput s width) = 1
+namesOf (newStore s width v) = 1
+namesOf (newDefine s ls) = 1
+namesOf (newProduction s e) = 1
+namesOf (newLimit p n w) = 0
+
 -- Behind literals: a define is one declaration more; a production, in whose letter they stand, can be the monitor itself.
 abbrev pub EndsIn : Names → Context → Type 0
 EndsIn ns (inDefine s) = Ends 1 ns
@@ -64,9 +77,10 @@ abbrev pub Spare : Names → Expect → Type 0
 Spare ns statement = Ends 0 ns
 -- what must come has to be followed
 Spare ns (sign k x) = Spare ns x
+Spare ns (keyword w x) = Spare ns x
 Spare ns (nought x) = Spare ns x
 -- in the declaration of an input, of a store and of a define: first a name that may be new, then what ends it
-Spare ns (closing d) = Ends 1 ns
+Spare ns (closing d) = Ends (namesOf d) ns
 Spare ns inputName = Room 1 ns × (ns .wires < 64) × Ends 1 ns
 Spare ns (inputMore s) = Ends 1 ns
 Spare ns (inputHigh s) = Ends 1 ns
@@ -75,6 +89,10 @@ Spare ns (storeMore s) = Ends 1 ns
 Spare ns (storeHigh s) = Ends 1 ns
 Spare ns (storeFirst s width) = Ends 1 ns
 Spare ns defineName = Room 1 ns × HasLiteral ns (inDefine []) [] × Ends 1 ns
+-- in a limit: a single letter to name, and a stretch that is longer than n
+Spare ns limitName = HasSingle ns
+Spare ns (limitMost p) = Ends 0 ns
+Spare ns (limitWindow p n) = (n ≤ 1023) × Ends 0 ns
 -- in a production: a name to begin an operand or a literal with
 Spare ns (operand o) = HasLiteral ns (inLetter o) [] ⊎ HasProduction ns
 Spare ns (literal c ls) = HasLiteral ns c ls × EndsIn ns c
@@ -104,22 +122,24 @@ Spared (fault number place) = ⊥
 
 -- ---- enough of all
 
--- a monitor's name is expected behind the monitors ms
-pub data MonitorNext : Expect → List Exp → Type 0 where
-  at-name : {ms : List Exp} → MonitorNext (monitorName ms) ms
-  behind-sign : {k : ℕ} {x : Expect} {ms : List Exp} → MonitorNext x ms → MonitorNext (sign k x) ms
-  behind-nought : {x : Expect} {ms : List Exp} → MonitorNext x ms → MonitorNext (nought x) ms
+-- y is expected, perhaps behind signs, words and noughts that must come first
+pub data Awaits : Expect → Expect → Type 0 where
+  now : {x : Expect} → Awaits x x
+  behind-sign : {k : ℕ} {x y : Expect} → Awaits x y → Awaits (sign k x) y
+  behind-word : {w : Word} {x y : Expect} → Awaits x y → Awaits (keyword w x) y
+  behind-nought : {x y : Expect} → Awaits x y → Awaits (nought x) y
 
--- An input, a store and a production are declared, there is room for a name, and a wire, a store and a monitor are left. Then names and limits are not in the way, whatever
--- is expected (proofs/Spared).
+-- An input, a store and a production of a single letter are declared, there is room for a name, a wire, a store and a monitor are left, and a limit's n is not too large.
+-- Then names and limits are not in the way, whatever is expected (proofs/Spared).
 pub record Ample (ns : Names) (x : Expect) : Type 0 where
   pub input : HasInput ns
   pub store : HasStore ns
-  pub production : HasProduction ns
+  pub single : HasSingle ns
   pub room : Room 1 ns
   pub wires : ns .wires < 64
   pub stores : length (ns .initial) < 16
-  pub monitors : (ms : List Exp) → MonitorNext x ms → length ms < 32
+  pub monitors : (ms : List Exp) → Awaits x (monitorName ms) → length ms < 32
+  pub windows : (p n : ℕ) → Awaits x (limitWindow p n) → n ≤ 1023
 
 -- ---- the token that is refused
 

@@ -1,10 +1,12 @@
 -- Every list of looks and takes on the watch of an accepted text gets the replies that the text's meaning fixes. Assumes nothing.
 use mathlib.Core.Path.{_≡_, refl, sym, ap, ap₂, _∙_, subst, subst₂}
+use mathlib.Core.Bool.{Bool, true, false, cond}
 use mathlib.Core.Option.{Option, none}
 use mathlib.Core.Logic.{⊎-elim}
 use mathlib.Core.List.{List, [], _∷_, _++_, map}
 use Prim.Native.Nat.{ℕ, zero, suc, _+_, _<_, _≤_, min}
 use native.Mathlib.Omega.{arith}
+use borrow.Author.Tests.{ne-eqb, lt-ltb, ltb-true}
 use lib.Dec.{T}
 use lib.ListN.{length, length-append, getD, drop, replicate, length-replicate}
 use lib.Seq.{sets-eq}
@@ -14,14 +16,16 @@ use Rattle.meaning.specs.Expression.{Letter, Exp, star, letters, own, size, row
 use Rattle.meaning.specs.Numbered.{numberedFrom}
 use Rattle.meaning.specs.Shape.{threads}
 use Rattle.meaning.specs.ShapeTests.{agree, AllSized}
-use Rattle.meaning.specs.Fit.{Tick, meets, among, write, History, start, tick, ok, judged}
+use Rattle.meaning.specs.Fit.{Tick, meets, among, write, History, start, tick, Verdict, ok, bad, verdict}
+use Rattle.meaning.specs.Limits.{limitsVerdict, orElse, judged}
 use Rattle.meaning.specs.Fit as fit
 use Rattle.meaning.specs.Positions as machine
 use Rattle.meaning.specs.Table.{Table}
 use Rattle.meaning.specs.Totals.{totals}
 use Rattle.meaning.specs.Calls.{Call, opening, stateFrom, replies, standing as stood}
 use Rattle.meaning.specs.Opening.{Opened, openText}
-use Rattle.meaning.proofs.ListLaws.{here, there, no-∈, cons-∈, map-∈, ∈-map}
+use Rattle.lexer.proofs.Bools.{left}
+use Rattle.meaning.proofs.ListLaws.{here, there, no-∈, cons-∈, map-∈, ∈-map, clash}
 use Rattle.meaning.proofs.Step.{Solid}
 use Rattle.meaning.proofs.Within.{LetterWithin}
 use Rattle.meaning.proofs.Walk.{a-row}
@@ -30,16 +34,20 @@ use Rattle.meaning.proofs.OneWay.{Closed}
 use Rattle.meaning.proofs.Watch.{AllAccepted, Tracked, Tracks, opened-tracks, same-verdict}
 use Rattle.meaning.proofs.Watch as watch
 use Rattle.meaning.proofs.Accept.{accept-all}
-use Rattle.meaning.proofs.Calls.{Alike, same-states}
+use Rattle.meaning.proofs.Limits.{AllKeep, limits-next, none-keep, ok-keeps}
+use Rattle.meaning.proofs.Calls.{Alike, same-replies, same-states}
 use Rattle.meaning.proofs.Numbering.{renumbered-size, renumbered-rows}
-use Rattle.meaning.proofs.Openings.{machine-right, all-read, all-accepted}
+use Rattle.meaning.proofs.Openings.{all-read, all-accepted}
 use Rattle.rules.specs.declared.Watch.{Watch}
 use Rattle.rules.specs.Cells.{Link}
 use Rattle.rules.specs.Laying.{slotWord, slotNumber, slotsOf}
 use Rattle.rules.specs.Watches.{watchOf}
+use Rattle.rules.proofs.Limited.{CountedFrom, limits-few, limits-proper, counted-right, windows-open}
+use Rattle.windows.specs.Windows.{bitOf, metMask, firstBeyond}
 use Rattle.monitor.specs.Letters.{Given, letterMet, writeLetter}
-use Rattle.monitor.specs.Ticks.{steps, emptyMemory, shutBusy, countMet, stepWithin}
-use Rattle.monitor.specs.Calls.{Moving, givenOf, layoutOf, stepFrom, judge, onward, stateOf, withState, totalsFrom, totalsIn, totalsOf, repliesOf, watchAfterAll, Held}
+use Rattle.monitor.specs.Ticks.{steps, emptyMemory, shutBusy, countMet, stepWithin, stuckAt}
+use Rattle.monitor.specs.Limited.{unlimited, verdictBy, walkOf}
+use Rattle.monitor.specs.Calls.{Moving, givenOf, layoutOf, stepFrom, maskFrom, judge, onward, stateOf, withState, totalsFrom, totalsIn, totalsOf, repliesOf, watchAfterAll, Held}
 use Rattle.monitor.proofs.Padded.{padded}
 use Rattle.monitor.proofs.Readable.{Readable, accepted-readable}
 use Rattle.monitor.proofs.Writers.{writers-enough}
@@ -50,10 +58,13 @@ use Rattle.monitor.proofs.MemoryLaws.{asks-right, leaves-right}
 use Rattle.monitor.proofs.Monitors.{AllStanding, all-go}
 use Rattle.monitor.proofs.ShutRows.{threads-shut, busy-shut}
 use Rattle.monitor.proofs.Moves.{AllWriteAs, MarksAll}
-use Rattle.monitor.proofs.Watching.{Steps, steps-right}
-use Rattle.monitor.proofs.Replies.{Like, watches-by, same-judgment, same-move, moved-on, machine-replies}
+use Rattle.monitor.proofs.Watching.{after-at, Steps, steps-right}
+use Rattle.monitor.proofs.TickSteps.{marks-walked}
+use Rattle.monitor.proofs.Replies.{replies-by, watches-by, Like, monitorsVerdict, same-judgment, same-move, moved-on}
 use Rattle.monitor.proofs.Single.{one-marked}
 use Rattle.monitor.proofs.LetterTotals.{flat, shown, total-letters, tick-counted, none-counted, ticks-few, totals-split}
+use Rattle.monitor.proofs.LimitMasks.{Bits, mask-right}
+use Rattle.monitor.proofs.LimitWindows.{Counting, has-limits, beyond-said, counting-on, counting-none}
 use Rattle.monitor.proofs.Starts.{starts}
 use Rattle.monitor.proofs.Numbered.{programOf}
 use Rattle.monitor.proofs.LetterRows.{HeldAll}
@@ -176,6 +187,14 @@ module _ (g : Given) (t : Tick) (Q : List ℕ) (pad : List ℕ → List ℕ) (st
 
 -- ---- the theorem
 
+or-else-ok : (u v : Verdict) → orElse u v ≡ ok → (u ≡ ok) × (v ≡ ok)
+or-else-ok ok v e = (refl, e)
+or-else-ok (bad i) v e = clash (cc e)
+
+all-go-on : (b : Bool) (i : ℕ) → cond b (bad i) ok ≡ ok → b ≡ false
+all-go-on true i e = clash (cc e)
+all-go-on false i e = refl
+
 module _ (text : List ℕ) (o : Opened) (e : openText text ≡ value o) where
   right : LettersRight o
   right = letters-right text o e
@@ -225,7 +244,7 @@ module _ (text : List ℕ) (o : Opened) (e : openText text ≡ value o) where
     step-from K xs h =
         let start = begun g K (o .letterCount) in
         let same : v .letters ≡ o .letterCount = Program.letters-counted o c in
-        steps-right (Good K) (λ M p. p .long) (λ M p. p .bits) g (at w b σ) (layoutOf v) K
+        steps-right (Good K) (λ M p. p .bits) g (at w b σ) (layoutOf v) K
         (rw same (memory-begun steps (Program.tableOf o) (at w b σ) (o .rowCount) (first K) (let f = c .few-rows in omega (arith, f)) start))
         (rw same (begun-unmarked (first K) start)) (o .monitors) ordered
         (Program.monitors-counted o c) (c .few-monitors) (Program.letters-counted o c ∙ sym (c .letters-are)) in-room
@@ -257,47 +276,111 @@ module _ (text : List ℕ) (o : Opened) (e : openText text ≡ value o) where
   unfolding v
   few-letters = let a = c .few-letters in let b = Program.letters-counted o c in omega (arith, a, b)
 
-  pub calls-answered : (cs : List Call) → repliesOf (watchOf (value o)) cs ≡ replies (o .monitors) (o .initial) (o .wires) cs
-  unfolding v watchOf
-  calls-answered cs =
-      machine-replies (o .monitors) padded (length (o .initial)) v (Program.monitors-counted o c) (c .few-monitors) few-letters step-right (stateOf v)
-      (machine.opened (o .monitors) (o .initial)) start-like cs
-      ∙ machine-right text o e cs
-
-  -- What moves follows the words of h: some machine is like it and tracks them, and each letter is counted as often as it was met, as long as 32 bits can tell.
+  -- What moves follows the words of h: some machine is like it and tracks them; each letter is counted as often as it was met, as long as 32 bits can tell; the windows count the ticks that the limits do, and these fit every limit.
   record Follows (s : Moving) (h : History) : Type 0 where
     pub by : machine.Watch
     pub like : Like (o .monitors) padded (length (o .initial)) s by
     pub tracks : Tracks (o .monitors) h by
     pub counted : length (h .ticks) < 4294967296 → s .totals ≡ shown (flat (o .monitors) (h .ticks))
+    pub counting : Counting (o .limits) (o .monitors) (s .windows) (h .ticks)
+    pub keeps : AllKeep (o .limits) (o .monitors) (h .ticks)
 
   accepted : AllAccepted (o .monitors)
   accepted = accept-all (o .monitors) (all-read text o e)
 
-  judges : (s : Moving) (h : History) → Follows s h → (w : ℕ) → judge v s w ≡ judged (o .monitors) h w
+  all-letters : min (v .letters) 256 ≡ total size (o .monitors)
   unfolding v
-  judges s h f w =
-      same-judgment (o .monitors) padded (length (o .initial)) v (Program.monitors-counted o c) (c .few-monitors) few-letters step-right s (f .by) (f .like) w
-      ∙ same-verdict (o .monitors) accepted h (f .by) (f .tracks) w
+  all-letters = let a = few-letters in let b = Program.letters-counted o c in let d = c .letters-are in omega (arith, a, b, d)
 
-  moves : (s : Moving) (h : History) → Follows s h → (w : ℕ) → judged (o .monitors) h w ≡ ok → Follows (onward v s w) (fit.onward (o .monitors) h w)
-  unfolding v fit.onward
-  moves s h f w p =
-      let q = same-verdict (o .monitors) accepted h (f .by) (f .tracks) w ∙ p in
-      let l = same-move (o .monitors) padded (length (o .initial)) v (Program.monitors-counted o c) (c .few-monitors) few-letters step-right s (f .by) (f .like) w q in
-      let t = watch.same-move (o .monitors) accepted h (f .by) (f .tracks) w p in
-      let (nss, k) = moved-on (o .monitors) (f .by) w q in
-      let all : min (v .letters) 256 ≡ total size (o .monitors) = (let a = few-letters in let b = Program.letters-counted o c in let d = c .letters-are in omega (arith, a, b, d)) in
-      record {
-        by = machine.moved (o .monitors) (f .by) w;
-        like = l;
-        tracks = t;
-        counted = λ few.
-            let d = length-append (h .ticks) (tick h w ∷ []) in
-            ap₂ (countMet (stepFrom v s w .marks)) all (f .counted (omega (arith, few, d)))
-            ∙ tick-counted (stepFrom v s w .marks) (h .ticks) (tick h w) (omega (arith, few, d)) (o .monitors) nss in-room (λ m i. (ordered m i, all-accepted text o e m i))
-            (subst (λ xs. MarksAll (stepFrom v s w .marks) 0 0 (o .monitors) xs) k (l .marks)) (subst (λ xs. Tracked (o .monitors) (h .ticks ++ tick h w ∷ []) xs) k (t .0));
-      }
+  -- the limits that count the letters of the watch
+  counts-right : CountedFrom (v .counted) (o .limits) 0 (o .monitors)
+  unfolding v watchOf
+  counts-right = counted-right text o e
+
+  module _ (s : Moving) (h : History) (f : Follows s h) (w : ℕ) where
+    -- the monitors' part
+    monitors-judge : monitorsVerdict v s w ≡ verdict 0 (o .monitors) (h .ticks ++ tick h w ∷ [])
+    unfolding v
+    monitors-judge =
+        same-judgment (o .monitors) padded (length (o .initial)) v (Program.monitors-counted o c) (c .few-monitors) few-letters step-right s (f .by) (f .like) w
+        ∙ same-verdict (o .monitors) accepted h (f .by) (f .tracks) w
+
+    -- where it is ok
+    module _ (p : verdict 0 (o .monitors) (h .ticks ++ tick h w ∷ []) ≡ ok) where
+      answered : machine.answer (o .monitors) (f .by) w ≡ ok
+      answered = same-verdict (o .monitors) accepted h (f .by) (f .tracks) w ∙ p
+
+      like-next : Like (o .monitors) padded (length (o .initial)) (onward v s w) (machine.moved (o .monitors) (f .by) w)
+      unfolding v
+      like-next = same-move (o .monitors) padded (length (o .initial)) v (Program.monitors-counted o c) (c .few-monitors) few-letters step-right s (f .by) (f .like) w answered
+
+      tracks-next : Tracks (o .monitors) (fit.onward (o .monitors) h w) (machine.moved (o .monitors) (f .by) w)
+      tracks-next = watch.same-move (o .monitors) accepted h (f .by) (f .tracks) w p
+
+      -- the marks are the letters met
+      met-next : (nss : List (List ℕ)) × MarksAll (stepFrom v s w .marks) 0 0 (o .monitors) (machine.keptEach (o .monitors) nss) × Tracked (o .monitors) (h .ticks ++ tick h w ∷ []) (machine.keptEach (o .monitors) nss)
+      unfolding fit.onward
+      met-next =
+          let (nss, k) = moved-on (o .monitors) (f .by) w answered in (
+            nss,
+            subst (λ xs. MarksAll (stepFrom v s w .marks) 0 0 (o .monitors) xs) k (like-next .marks),
+            subst (λ xs. Tracked (o .monitors) (h .ticks ++ tick h w ∷ []) xs) k (tracks-next .0),
+          )
+
+      -- and the mask says which limits count the tick
+      bits : Bits (o .limits) (o .monitors) (h .ticks) (tick h w) (maskFrom v s w)
+      bits k few =
+          let (nss, marks, tracked) = met-next in
+          let g = givenOf v (s .values) (two w (s .last)) in
+          let M = walkOf g (layoutOf v) (s .marks) .memory in
+          let stands = marks-walked g (layoutOf v) (s .marks) (all-go-on _ _ (monitors-judge ∙ p)) in
+          ap (bitOf k) (left (unlimited (s .windows)) 0 (metMask M (v .counted) (min (v .letters) 256)) (ne-eqb _ 0 (has-limits (o .limits) (o .monitors) (s .windows) (h .ticks) (f .counting) k few)))
+          ∙ ap (λ (n : ℕ). bitOf k (metMask M (v .counted) n)) all-letters
+          ∙ mask-right M (v .counted) (stepFrom v s w .marks) (λ i l. ap (λ (K : List ℕ). getD K i 0) stands ∙ after-at 256 M (omega arith) i l) (o .limits) (h .ticks) (tick h w) k few
+          (o .monitors) nss in-room (λ m i. (ordered m i, all-accepted text o e m i)) marks tracked counts-right
+
+    limits-judge : verdict 0 (o .monitors) (h .ticks ++ tick h w ∷ []) ≡ ok → verdictBy (32 + firstBeyond (s .windows) (maskFrom v s w)) ≡ limitsVerdict 0 (o .limits) (o .monitors) (h .ticks ++ tick h w ∷ [])
+    limits-judge p =
+        beyond-said (o .limits) (o .monitors) (s .windows) (h .ticks) (f .counting) (tick h w) (maskFrom v s w) (bits p)
+        ∙ sym (limits-next (o .monitors) (h .ticks) (tick h w) 0 (o .limits) (f .keeps))
+
+    judges : judge v s w ≡ judged (o .limits) (o .monitors) h w
+    judges = by (stuckAt i (v .monitors)) refl monitors-judge
+      where
+        i : ℕ
+        i = stepFrom v s w .monitor
+
+        ts : List Tick
+        ts = h .ticks ++ tick h w ∷ []
+
+        by : (b : Bool) → stuckAt i (v .monitors) ≡ b → cond b (bad i) ok ≡ verdict 0 (o .monitors) ts
+            → verdictBy (cond b i (32 + firstBeyond (s .windows) (maskFrom v s w))) ≡ orElse (verdict 0 (o .monitors) ts) (limitsVerdict 0 (o .limits) (o .monitors) ts)
+        by true q p =
+            ap (λ (b : Bool). cond b (bad i) ok) (lt-ltb i 40 (let l = ltb-true i (min (v .monitors) 32) q in omega (arith, l)))
+            ∙ ap (λ (u : Verdict). orElse u (limitsVerdict 0 (o .limits) (o .monitors) ts)) p
+        by false q p = limits-judge (sym p) ∙ ap (λ (u : Verdict). orElse u (limitsVerdict 0 (o .limits) (o .monitors) ts)) p
+
+    moves : judged (o .limits) (o .monitors) h w ≡ ok → Follows (onward v s w) (fit.onward (o .monitors) h w)
+    unfolding fit.onward
+    moves e′ =
+        let (p, q) = or-else-ok _ _ e′ in
+        let (nss, marks, tracked) = met-next p in
+        record {
+          by = machine.moved (o .monitors) (f .by) w;
+          like = like-next p;
+          tracks = tracks-next p;
+          counted = λ few.
+              let d = length-append (h .ticks) (tick h w ∷ []) in
+              ap₂ (countMet (stepFrom v s w .marks)) all-letters (f .counted (omega (arith, few, d)))
+              ∙ tick-counted (stepFrom v s w .marks) (h .ticks) (tick h w) (omega (arith, few, d)) (o .monitors) nss in-room (λ m i. (ordered m i, all-accepted text o e m i)) marks tracked;
+          counting = counting-on (o .limits) (o .monitors) (s .windows) (h .ticks) (f .counting) (tick h w) (maskFrom v s w) (bits p);
+          keeps = ok-keeps 0 (o .limits) (o .monitors) (h .ticks ++ tick h w ∷ []) q;
+        }
+
+  -- no tick yet
+  counting-first : Counting (o .limits) (o .monitors) (v .windows) []
+  unfolding v watchOf
+  counting-first = rw (windows-open text o e) (counting-none (o .limits) (o .monitors) (limits-few text o e) (limits-proper text o e))
 
   begins : Follows (stateOf v .inner) (start (o .initial))
   unfolding v watchOf
@@ -306,23 +389,32 @@ module _ (text : List ℕ) (o : Opened) (e : openText text ≡ value o) where
     like = start-like;
     tracks = opened-tracks (o .monitors) (o .initial);
     counted = λ few. none-counted (o .monitors);
+    counting = counting-first;
+    keeps = none-keep (o .limits) (o .monitors);
   }
 
-  follows : (cs : List Call) → Alike Follows (stateFrom (judge v) (onward v) (v .wires) (stateOf v) cs) (stood (o .monitors) (o .initial) (o .wires) cs)
+  pub calls-answered : (cs : List Call) → repliesOf (watchOf (value o)) cs ≡ replies (o .limits) (o .monitors) (o .initial) (o .wires) cs
+  unfolding v watchOf
+  calls-answered cs =
+      replies-by v (stateOf v) cs
+      ∙ same-replies (judge v) (onward v) (judged (o .limits) (o .monitors)) (fit.onward (o .monitors)) Follows judges moves (o .wires) cs (stateOf v) (opening (start (o .initial)))
+      (begins, refl, refl)
+
+  follows : (cs : List Call) → Alike Follows (stateFrom (judge v) (onward v) (v .wires) (stateOf v) cs) (stood (o .limits) (o .monitors) (o .initial) (o .wires) cs)
   unfolding v watchOf
   follows cs =
-      same-states (judge v) (onward v) (judged (o .monitors)) (fit.onward (o .monitors)) Follows judges moves (o .wires) cs (stateOf v) (opening (start (o .initial)))
+      same-states (judge v) (onward v) (judged (o .limits) (o .monitors)) (fit.onward (o .monitors)) Follows judges moves (o .wires) cs (stateOf v) (opening (start (o .initial)))
       (begins, refl, refl)
 
   -- after any list of calls the marks are positions that track the words
   pub marks-right : (cs : List Call) → (xs : List machine.Positions) × MarksAll (watchAfterAll (watchOf (value o)) cs .marks) 0 0 (o .monitors) xs
-      × Tracked (o .monitors) (stood (o .monitors) (o .initial) (o .wires) cs .inner .ticks) xs
+      × Tracked (o .monitors) (stood (o .limits) (o .monitors) (o .initial) (o .wires) cs .inner .ticks) xs
   unfolding v
   marks-right cs = let f = follows cs .0 in (f .by .positions, rw (watches-by v (stateOf v) cs) (f .like .marks), f .tracks .0)
 
   -- After any list of calls the watch has the tick count, the stop, the word before, the store values and the letters' totals that the meaning fixes, zeros behind these; all else
-  -- but the marks is as it was opened.
-  pub watch-held : (cs : List Call) → Held (o .monitors) (watchOf (value o)) (watchAfterAll (watchOf (value o)) cs) (stood (o .monitors) (o .initial) (o .wires) cs)
+  -- but the marks and the windows of limits is as it was opened.
+  pub watch-held : (cs : List Call) → Held (o .monitors) (watchOf (value o)) (watchAfterAll (watchOf (value o)) cs) (stood (o .limits) (o .monitors) (o .initial) (o .wires) cs)
   unfolding v watchOf
   watch-held cs =
       let (f, n, b) = follows cs in
@@ -333,15 +425,15 @@ module _ (text : List ℕ) (o : Opened) (e : openText text ≡ value o) where
         stopped = ap (λ (u : Watch). u .stopped) w ∙ b;
         before = ap (λ (u : Watch). u .before) w ∙ f .like .last ∙ sym (f .tracks .1);
         values = ap (λ (u : Watch). u .values) w ∙ f .like .values ∙ ap padded (sym (f .tracks .2));
-        totals = ap (λ (u : Watch). u .totals) w ∙ f .counted (let t = ticks-few (o .monitors) (o .initial) (o .wires) cs in omega (arith, t));
+        totals = ap (λ (u : Watch). u .totals) w ∙ f .counted (let t = ticks-few (o .limits) (o .monitors) (o .initial) (o .wires) cs in omega (arith, t));
       }
 
   -- W13: monitor by monitor, they are how often each letter was met.
-  pub totals-right : (cs : List Call) → totalsOf (watchAfterAll (watchOf (value o)) cs) ≡ totals (o .monitors) (stood (o .monitors) (o .initial) (o .wires) cs .inner .ticks)
+  pub totals-right : (cs : List Call) → totalsOf (watchAfterAll (watchOf (value o)) cs) ≡ totals (o .monitors) (stood (o .limits) (o .monitors) (o .initial) (o .wires) cs .inner .ticks)
   unfolding v
   totals-right cs =
       let h = watch-held cs in
-      let ts = stood (o .monitors) (o .initial) (o .wires) cs .inner .ticks in
+      let ts = stood (o .limits) (o .monitors) (o .initial) (o .wires) cs .inner .ticks in
       let m : min (v .monitors) 32 ≡ v .monitors = (let a = Program.monitors-counted o c in let b = c .few-monitors in omega (arith, a, b)) in
       let l : min (v .letters) 256 ≡ v .letters = omega (arith, few-letters) in
       let few = total-letters (o .monitors) ts in

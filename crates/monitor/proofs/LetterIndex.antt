@@ -149,13 +149,13 @@ module _ (xs : List Letter) (order : Consecutive 0 xs) (few : length xs ≤ 256)
       at-slots (λ y. map f (slotsOf y)) (four-slots f) (λ n. getD (sets (replicate 1024 0) 0 (each xs (λ y. map f (slotsOf y)))) n 0) 0 0 xs refl order
       (stored 1024 (each xs (λ y. map f (slotsOf y))) (omega (arith, slots-long (λ y. map f (slotsOf y)) (four-slots f) xs))) x inside
 
-pub all-letters : (gs : List Exp) → InOrder 0 gs → total size gs ≤ 256 → (r l m w : ℕ) (vs : List ℕ) (e : Exp) → e ∈ gs → (x : Letter) → x ∈ letters e
-    → LetterStands (watchBy (withMonitors noLists 0 0 0 gs) r l m w vs) x
-all-letters gs o few r l m w vs e i x j =
+pub all-letters : (gs : List Exp) → InOrder 0 gs → total size gs ≤ 256 → (r l m w : ℕ) (vs C W : List ℕ) (e : Exp) → e ∈ gs → (x : Letter) → x ∈ letters e
+    → LetterStands (watchBy (withMonitors noLists 0 0 0 gs) r l m w vs C W) x
+all-letters gs o few r l m w vs C W e i x j =
     let c = all-consecutive 0 gs o in
     let n : length (each gs letters) ≤ 256 = omega (arith, all-letters-long gs) in
     let k : x ∈ each gs letters = ∈-each letters i j in
-    let v = watchBy (withMonitors noLists 0 0 0 gs) r l m w vs in
+    let v = watchBy (withMonitors noLists 0 0 0 gs) r l m w vs C W in
     let t = threadsOf (v .table) (v .rows) in
     let low : x .number < 256 = omega (arith, numbers-below 0 gs o e i x j) in
     let looks = map (λ (y : Letter). masks.look (y .literals)) (each gs letters) in

@@ -124,7 +124,7 @@ module _ (g : Given) (k : ℕ) (few : k ≤ 16) (j : ℕ) where
   slot-test : (σ : List ℕ) → length σ ≤ 16 → g .values ≡ padded σ → (o : Option Link) → SlotFits k o → SlotGiven g j o
       → testMet g j ≡ slotHolds (record { word = g .word; before = g .before; stores = σ }) o
   slot-test σ short e none f (p, q) = rw p
-  slot-test σ short e (some x) f (p, q) = rw (p, q, link-some k few x f, link-store k few x f, link-value k few x f (g .word), e, padded-get σ short (x .store))
+  slot-test σ short e (some x) f (p, q) = rw (p, q, link-some k few x f, link-store k few x f, link-value k few x f (g .word), e, padded-get 16 σ short (x .store))
 
   slot-write : (o : Option Link) → SlotFits k o → SlotGiven g j o → (ρ : List ℕ) → writeSlot g j ρ ≡ slotWrites (g .word) ρ o
   slot-write none f (p, q) ρ = rw p

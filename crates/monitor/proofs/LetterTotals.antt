@@ -11,7 +11,9 @@ use lib.ListN.{length, length-append, length-map, getD, set, drop, replicate, le
 use lib.Seq.{append-snoc, set-at, getD-at, set-getD, sets, sets-eq}
 use Rattle.meaning.specs.Lists.{_∈_, each, total, count, member}
 use Rattle.meaning.specs.Expression.{Letter, Exp, letters, size, rows, Ordered}
-use Rattle.meaning.specs.Fit.{Tick, History, start, tick, met, onward, judged}
+use Rattle.meaning.specs.Names.{Limit}
+use Rattle.meaning.specs.Fit.{Tick, History, start, tick, met, onward}
+use Rattle.meaning.specs.Limits.{judged}
 use Rattle.meaning.specs.Totals.{metFrom, timesFrom, totals}
 use Rattle.meaning.specs.Positions.{Positions, at-start, on, keptEach}
 use Rattle.meaning.specs.Calls.{Call, look, take, Reply, ok, bad, refused, replyOf, mostTicks, isFull, isStray, State, opening, reply, after, stateFrom, standing}
@@ -115,18 +117,23 @@ module _ (K : List ℕ) (l : ℕ) (ns : List ℕ) (f : Letter → ℕ) (few : (x
       by true true p = clash (cc p)
       by false false p = clash (cc p)
 
--- the tick t behind the ticks ts left the marks K
+-- the tick t behind the ticks ts left the marks K: the letters marked are the set of those met
+module _ (K : List ℕ) (ts : List Tick) (t : Tick) where
+  pub marked-met : (l : ℕ) (m : Exp) → Ordered 0 m → Accepted m → (ns : List ℕ) → markedFrom K (size m) l ≡ shiftAll l ns
+      → (y : Positions) → positionsAfter (goCounted m) at-start (ts ++ t ∷ []) ≡ some y → Alike (on ns) y → (x : Letter) → x ∈ letters m → marked K (l + x .number) ≡ member (x .number) (met m ts t)
+  marked-met l m o ac ns e at-start p a x i = absurd a
+  marked-met l m o ac ns e (on qs) p a x i = same-met K l m o ns e x i ∙ same-member ns qs (a .0) (a .1) (x .number) ∙ sym (positions-met m ac ts t qs p (x .number))
+
+-- so each has one more
 module _ (K : List ℕ) (ts : List Tick) (t : Tick) (few : suc (length ts) < 4294967296) where
-  -- the letters marked are the set of those met
   monitor-raised : (l : ℕ) (m : Exp) → Ordered 0 m → Accepted m → (ns : List ℕ) → markedFrom K (size m) l ≡ shiftAll l ns
       → (y : Positions) → positionsAfter (goCounted m) at-start (ts ++ t ∷ []) ≡ some y → Alike (on ns) y → raised K l (timesFrom m [] ts) ≡ timesFrom m [] (ts ++ t ∷ [])
-  monitor-raised l m o ac ns e at-start p a = absurd a
-  monitor-raised l m o ac ns e (on qs) p a =
+  monitor-raised l m o ac ns e y p a =
       let z : l ≡ l + 0 = omega arith in
       ap (λ (k : ℕ). raised K k (timesFrom m [] ts)) z
       ∙ letters-raised K l (met m ts t) (λ x. count (member (x .number)) (metFrom m [] ts)) (λ x. let q = times-few m (x .number) ts in omega (arith, q, few))
       0 (letters m) (ordered-counted 0 m o)
-      (λ x i. same-met K l m o ns e x i ∙ same-member ns qs (a .0) (a .1) (x .number) ∙ sym (positions-met m ac ts t qs p (x .number)))
+      (marked-met K ts t l m o ac ns e y p a)
       ∙ sym (times-snoc m ts t)
 
   all-raised : (i l : ℕ) (ms : List Exp) (nss : List (List ℕ)) → ((m : Exp) → m ∈ ms → Ordered 0 m × Accepted m) → MarksAll K i l ms (keptEach ms nss)
@@ -168,22 +175,22 @@ none-counted ms = sym (zeros-stored 256 0 (flat ms []) (λ n i.
 
 -- ---- no more ticks than a watch takes
 
-module _ (ms : List Exp) (wires : ℕ) where
+module _ (ls : List Limit) (ms : List Exp) (wires : ℕ) where
   -- the ok takes are the ticks
   abbrev Few : State History → Type 0
   Few s = (length (s .inner .ticks) ≡ s .oks) × (s .oks ≤ mostTicks)
 
-  not-full : (s : State History) (w : ℕ) → reply (judged ms) wires s w ≡ ok → s .oks < mostTicks
+  not-full : (s : State History) (w : ℕ) → reply (judged ls ms) wires s w ≡ ok → s .oks < mostTicks
   unfolding reply
   not-full s w p = by (s .stopped) (isFull (s .oks)) refl p
     where
-      by : (a b : Bool) → isFull (s .oks) ≡ b → cond a (refused 16 0) (cond b (refused 17 0) (cond (isStray wires w) (refused 15 0) (replyOf (judged ms (s .inner) w)))) ≡ ok
+      by : (a b : Bool) → isFull (s .oks) ≡ b → cond a (refused 16 0) (cond b (refused 17 0) (cond (isStray wires w) (refused 15 0) (replyOf (judged ls ms (s .inner) w)))) ≡ ok
           → s .oks < mostTicks
       by true b e p = clash (cc p)
       by false true e p = clash (cc p)
       by false false e p = leb-false mostTicks (s .oks) e
 
-  few-after : (s : State History) → Few s → (w : ℕ) (r : Reply) → reply (judged ms) wires s w ≡ r → Few (after (onward ms) s w r)
+  few-after : (s : State History) → Few s → (w : ℕ) (r : Reply) → reply (judged ls ms) wires s w ≡ r → Few (after (onward ms) s w r)
   unfolding onward
   few-after s (a, b) w ok p = (
     (let l = length-append (s .inner .ticks) (tick (s .inner) w ∷ []) in omega (arith, l, a)),
@@ -192,14 +199,14 @@ module _ (ms : List Exp) (wires : ℕ) where
   few-after s f w (bad m) p = f
   few-after s f w (refused n q) p = f
 
-  few-from : (s : State History) → Few s → (cs : List Call) → Few (stateFrom (judged ms) (onward ms) wires s cs)
+  few-from : (s : State History) → Few s → (cs : List Call) → Few (stateFrom (judged ls ms) (onward ms) wires s cs)
   unfolding stateFrom
   few-from s f [] = f
   few-from s f (look w ∷ cs) = few-from s f cs
-  few-from s f (take w ∷ cs) = few-from _ (few-after s f w (reply (judged ms) wires s w) refl) cs
+  few-from s f (take w ∷ cs) = few-from _ (few-after s f w (reply (judged ls ms) wires s w) refl) cs
 
-pub ticks-few : (ms : List Exp) (initial : List ℕ) (wires : ℕ) (cs : List Call) → length (standing ms initial wires cs .inner .ticks) ≤ 1000000
-ticks-few ms initial wires cs = let (a, b) = few-from ms wires (opening (start initial)) (refl, omega arith) cs in omega (arith, a, b)
+pub ticks-few : (ls : List Limit) (ms : List Exp) (initial : List ℕ) (wires : ℕ) (cs : List Call) → length (standing ls ms initial wires cs .inner .ticks) ≤ 1000000
+ticks-few ls ms initial wires cs = let (a, b) = few-from ls ms wires (opening (start initial)) (refl, omega arith) cs in omega (arith, a, b)
 
 -- ---- monitor by monitor
 

@@ -37,12 +37,12 @@ mod ShutRows
 mod Single
 -- a tick, by the loops and branches of the code
 pub mod TickSteps
+-- its limits, by the branches of the code
+mod LimitSteps
 -- how often letters were met, by the branches of the code
 mod TotalSteps
 -- a list that is stored in an array stands there
 pub mod Stored
--- reading gives at most 32 monitors
-mod FewMonitors
 -- a program's monitors with letters numbered over all of them have the same watch
 mod Numbered
 -- the words of a watch's rows are those of the rows of meaning's table
@@ -69,6 +69,10 @@ mod LetterTests
 mod Starts
 -- a good tick counts each letter met at it once, and no number outgrows its 32 bits; one number for each letter (`total-letters`)
 pub mod LetterTotals
+-- a tick's mask says which limits count it
+mod LimitMasks
+-- the windows of a watch count the ticks that its limits do, and name the limit that the meaning does
+mod LimitWindows
 -- every list of calls on the watch of an accepted text gets the replies that its meaning fixes (`calls-answered`)
 pub mod Calls
 -- and every take on it tells the number of rows that the definition says

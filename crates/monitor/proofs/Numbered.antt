@@ -13,7 +13,7 @@ use Rattle.meaning.specs.Opening.{Opened}
 use Rattle.meaning.proofs.ListLaws.{no-∈, cons-∈}
 use Rattle.meaning.proofs.Numbering.{renumbered-size, renumbered-ordered, between}
 use Rattle.rules.specs.Monitors.{Lists, withMonitors}
-use Rattle.rules.specs.Watches.{noLists, watchBy, watchOf}
+use Rattle.rules.specs.Watches.{noLists, countedOf, windowsOf, watchBy, watchOf}
 use Rattle.rules.proofs.Starting.{tables-renumbered}
 
 -- an opened program's monitors, with their letters numbered over all of them
@@ -64,10 +64,10 @@ all-again k (m ∷ ms) = ap₂ _∷_ (renumbered-again 0 k m) (all-again (k + si
 
 -- nor to the watch's lists
 pub watch-numbered : (o : Opened)
-    → watchOf (value o) ≡ watchBy (withMonitors noLists 0 0 0 (programOf o)) (o .rowCount) (o .letterCount) (length (o .monitors)) (o .wires) (o .initial)
+    → watchOf (value o) ≡ watchBy (withMonitors noLists 0 0 0 (programOf o)) (o .rowCount) (o .letterCount) (length (o .monitors)) (o .wires) (o .initial) (countedOf o) (windowsOf o)
 unfolding watchOf
 watch-numbered o =
-    ap (λ (A : Lists). watchBy A (o .rowCount) (o .letterCount) (length (o .monitors)) (o .wires) (o .initial))
+    ap (λ (A : Lists). watchBy A (o .rowCount) (o .letterCount) (length (o .monitors)) (o .wires) (o .initial) (countedOf o) (windowsOf o))
     (sym (tables-renumbered noLists 0 0 0 (o .monitors)) ∙ ap (withMonitors noLists 0 0 0) (sym (all-again 0 (o .monitors))) ∙ tables-renumbered noLists 0 0 0 (programOf o))
 
 -- the numbers of the letters of monitors numbered from k on

@@ -22,13 +22,13 @@ use Rattle.meaning.proofs.Openings as openings
 use Rattle.words.specs.Words.{part0}
 use Rattle.rules.specs.Laying.{rowWord}
 use Rattle.rules.specs.Monitors.{codesAll, startsBy, withMonitors}
-use Rattle.rules.specs.Watches.{noLists, lettersFrom, watchBy, watchOf}
+use Rattle.rules.specs.Watches.{noLists, countedOf, windowsOf, lettersFrom, watchBy, watchOf}
 use Rattle.rules.specs.declared.Watch.{Watch}
 use Rattle.monitor.specs.Letters.{Given, letterMet}
 use Rattle.monitor.specs.Ticks.{layout, within, lettersEnd}
 use Rattle.monitor.specs.Calls.{layoutOf}
 use Rattle.monitor.proofs.Coded.{Threaded, Coded}
-use Rattle.monitor.proofs.FewMonitors.{few-monitors}
+use Rattle.meaning.proofs.Bounded.{few-monitors}
 use Rattle.monitor.proofs.Stored.{stands-at, stands-self, each-at, stored, taken, drop-replicate}
 use Rattle.monitor.proofs.Numbered.{programOf, InOrder, numbered-in-order, total-numbered, length-numbered, watch-numbered, numbers-below}
 use Rattle.monitor.proofs.RowWords.{wordOf, RowFits, Tested, words-laid, words-long, row-word, all-fit, all-threaded, row-coded}
@@ -173,7 +173,7 @@ module _ (o : Opened) (c : Counted o) where
   pub letters-stand : (m : Exp) → m ∈ programOf o → (x : Letter) → x ∈ letters m → LetterStands (watchOf (value o)) x
   letters-stand m i x j =
       subst (λ (v : Watch). LetterStands v x) (sym (watch-numbered o))
-      (all-letters (programOf o) in-order (omega (arith, program-letters, c .few-letters)) (o .rowCount) (o .letterCount) (length (o .monitors)) (o .wires) (o .initial) m i x j)
+      (all-letters (programOf o) in-order (omega (arith, program-letters, c .few-letters)) (o .rowCount) (o .letterCount) (length (o .monitors)) (o .wires) (o .initial) (countedOf o) (windowsOf o) m i x j)
 
   -- the kinds that the watch's places were found by
   the-kinds : map part0 (take (o .rowCount) (withMonitors noLists 0 0 0 (programOf o) .table)) ≡ kinds (laidAll 0 (programOf o))
@@ -219,7 +219,7 @@ module _ (o : Opened) (c : Counted o) where
       (omega (arith, rows-counted, program-rows)) (omega (arith, letters-counted, program-letters)) (starts rows (λ v. v .own) refl) (starts size (λ v. v .firsts) refl)
     where
       starts : (f : Exp → ℕ) (field : Watch → List ℕ)
-          → field (watchBy (withMonitors noLists 0 0 0 (programOf o)) (o .rowCount) (o .letterCount) (length (o .monitors)) (o .wires) (o .initial)) ≡ sets (replicate 32 0) 0 (startsBy f 0 (programOf o))
+          → field (watchBy (withMonitors noLists 0 0 0 (programOf o)) (o .rowCount) (o .letterCount) (length (o .monitors)) (o .wires) (o .initial) (countedOf o) (windowsOf o)) ≡ sets (replicate 32 0) 0 (startsBy f 0 (programOf o))
           → Stands (λ i. getD (field (watchOf (value o))) i 0) 0 (startsBy f 0 (programOf o))
       starts f field e =
           subst (λ (K : List ℕ). Stands (λ i. getD K i 0) 0 (startsBy f 0 (programOf o))) (sym (ap field (watch-numbered o) ∙ e))

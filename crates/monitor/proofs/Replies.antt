@@ -1,4 +1,4 @@
--- A list of looks and takes on one watch: 16, 17, 15 and the verdicts are those of what moves in it. Assumes nothing.
+-- A list of looks and takes on one watch: 16, 17, 15 and the verdicts are those of what moves in it; and the monitors' part of a tick is that of the meaning's machine. Assumes nothing.
 use mathlib.Core.Path.{_≡_, refl, sym, ap, ap₂, _∙_, subst}
 use mathlib.Core.Bool.{Bool, cond}
 use mathlib.Core.List.{List, [], _∷_}
@@ -8,13 +8,12 @@ use lib.Dec.{ltb}
 use borrow.Author.Tests.{le-ltb, lt-ltb}
 use lib.ListN.{length}
 use Rattle.meaning.specs.Expression.{Exp}
-use Rattle.meaning.specs.Fit.{Tick, ok, bad}
+use Rattle.meaning.specs.Fit.{Tick, Verdict, ok, bad}
 use Rattle.meaning.specs.Positions as machine
 use Rattle.meaning.specs.Calls.{Call, look, take, wordOf, State, reply, afterCall, repliesFrom, stateFrom}
 use Rattle.meaning.proofs.ListLaws.{clash}
-use Rattle.meaning.proofs.Calls.{same-replies}
 use Rattle.rules.specs.declared.Watch.{Watch}
-use Rattle.monitor.specs.Ticks.{Layout, layout, within, Move, stepWithin}
+use Rattle.monitor.specs.Ticks.{Layout, layout, within, Move, stepWithin, stuckAt}
 use Rattle.monitor.specs.Calls.{Moving, givenOf, layoutOf, stepFrom, judge, onward, withState, replyOf, watchAfter, watchAfterCall, repliesOf, watchAfterAll}
 use Rattle.monitor.proofs.Moves.{MarksAll}
 use Rattle.monitor.proofs.Watching.{Steps}
@@ -41,7 +40,7 @@ module _ (v : Watch) where
   watches-by s [] = refl
   watches-by s (c ∷ cs) = ap (λ u. watchAfterAll u cs) (after-by s c) ∙ watches-by (next s c) cs
 
--- ---- calls on a watch whose steps are those of the meaning's machine
+-- ---- a tick on a watch whose steps are those of the meaning's machine
 
 -- the marks are the positions, and the store values stand as they do in a watch
 pub record Like (ms : List Exp) (pad : List ℕ → List ℕ) (stores : ℕ) (s : Moving) (m : machine.Watch) : Type 0 where
@@ -50,7 +49,11 @@ pub record Like (ms : List Exp) (pad : List ℕ → List ℕ) (stores : ℕ) (s 
   pub last : s .last ≡ m .last
   pub long : length (m .stores) ≡ stores
 
--- a verdict by the monitor reached
+-- the verdict of the monitors; W6: "the lowest monitor that does not fit"
+abbrev pub monitorsVerdict : Watch → Moving → ℕ → Verdict
+monitorsVerdict v s w = cond (stuckAt (stepFrom v s w .monitor) (v .monitors)) (bad (stepFrom v s w .monitor)) ok
+
+-- by the monitor reached
 told-by : (ms : List Exp) (t : Tick) (σ : List ℕ) (pad : List ℕ → List ℕ) (stores : ℕ) (a : machine.Ticked) (z : Move) → Steps ms t σ pad stores a z
     → cond (ltb (z .monitor) (length ms)) (bad (z .monitor)) ok ≡ machine.told a
 told-by ms t σ pad stores (machine.fine nss) z h =
@@ -82,7 +85,7 @@ module _ (ms : List Exp) (pad : List ℕ → List ℕ) (stores : ℕ) (v : Watch
   steps-within s m l w =
       subst (λ (y : Layout). Steps ms (machine.seen m w) (m .stores) pad stores (machine.ticked ms m w) (stepWithin (givenOf v (s .values) (w ∷ s .last ∷ [])) y (s .marks))) (sym all-within) (steps s m l w)
 
-  pub same-judgment : (s : Moving) (m : machine.Watch) → Like ms pad stores s m → (w : ℕ) → judge v s w ≡ machine.answer ms m w
+  pub same-judgment : (s : Moving) (m : machine.Watch) → Like ms pad stores s m → (w : ℕ) → monitorsVerdict v s w ≡ machine.answer ms m w
   same-judgment s m l w =
       ap (λ (n : ℕ). cond (ltb (stepFrom v s w .monitor) n) (bad (stepFrom v s w .monitor)) ok) (ap (λ (y : Layout). y .monitors) all-within ∙ monitors)
       ∙ told-by ms (machine.seen m w) (m .stores) pad stores (machine.ticked ms m w) (stepFrom v s w) (steps-within s m l w)
@@ -93,11 +96,3 @@ module _ (ms : List Exp) (pad : List ℕ → List ℕ) (stores : ℕ) (v : Watch
       by : (a : machine.Ticked) → Steps ms (machine.seen m w) (m .stores) pad stores a (stepFrom v s w) → machine.told a ≡ ok → Like ms pad stores (onward v s w) (machine.movedBy ms m w a)
       by (machine.fine nss) h e = let (a, b, c, d) = h .goes nss refl in record { marks = b; values = c; last = refl; long = d }
       by (machine.wrong j) h e = clash (cc e)
-
-  module _ (s : State Moving) (m : machine.Watch) (l : Like ms pad stores (s .inner) m) (cs : List Call) where
-    abbrev other : State machine.Watch
-    other = record { inner = m; oks = s .oks; stopped = s .stopped }
-
-    pub machine-replies : repliesOf (withState v s) cs ≡ repliesFrom (machine.answer ms) (machine.moved ms) (v .wires) other cs
-    machine-replies =
-        replies-by v s cs ∙ same-replies (judge v) (onward v) (machine.answer ms) (machine.moved ms) (Like ms pad stores) same-judgment same-move (v .wires) cs s other (l, refl, refl)

@@ -5,7 +5,7 @@ use mathlib.Core.List.{List, [], _∷_}
 use Prim.Native.Nat.{ℕ, suc, _+_, _-_, _/_, _^_, _<_, _≤_, min}
 use native.Mathlib.Omega.{arith}
 use native.Mathlib.Nat.{div-lt-iff-lt-mul, div-eq-of-lt}
-use borrow.Author.Tests.{eq-eqb, ne-eqb, lt-ltb, le-ltb, lt-leb, le-leb, leb-true, leb-false}
+use borrow.Author.Tests.{eq-eqb, ne-eqb, lt-ltb, le-ltb, ltb-true, ltb-false, lt-leb, le-leb, leb-true, leb-false}
 use lib.Dec.{eqb, leb, ltb}
 use lib.ListN.{getD, set}
 use lib.Pow.{pow-pos, pow-mono}
@@ -17,10 +17,12 @@ use Rattle.words.specs.Words.{part1}
 use Rattle.counts.specs.Counts.{countsOf}
 use Rattle.monitor.specs.Letters.{Given, given, threaded, unthreaded}
 use Rattle.monitor.specs.Walk.{Told, told, askM, leaveM}
-use Rattle.monitor.specs.Ticks.{steps, Layout, layout, firstMarked, ifMarked, eachMarked, shutRow, shutCode, shutFor, shutBusy, andThen, letterGoes, lettersGo, startGoes, lettersEnd, monitorGoes, Reached, reached, reachedBy, monitorsGo, marksAfter, writeMarked, countMet, writers, Move, move, emptyMemory, moveBy, stepWithin, stepOf, within, stuckAt}
+use Rattle.monitor.specs.Ticks.{steps, Layout, layout, firstMarked, ifMarked, eachMarked, shutRow, shutCode, shutFor, shutBusy, andThen, letterGoes, lettersGo, startGoes, lettersEnd, monitorGoes, Reached, reached, reachedBy, monitorsGo, marksAfter, writeMarked, countMet, writers, Move, move, moveBy, stepWithin, stepOf, within, stuckAt}
+use Rattle.monitor.specs.Limited.{tickMask, answerBy, fine, isBad, verdictBy, windowsAfter, walkOf, maskAt, answerAt, Stepped, stepped, tickOf}
+use Rattle.windows.specs.Windows.{firstBeyond}
 use Rattle.rules.specs.declared.Watch.{Watch}
 use Rattle.monitor.specs.Tally.{counts, touchedOf}
-use Rattle.monitor.specs.Calls.{Moving, tablesOf, withState, refusedBy, stateOf, judge, onward, stepFrom, layoutOf, replyOf, touchedOn, touchedFor, watchAfter}
+use Rattle.monitor.specs.Calls.{Moving, tablesOf, withState, refusedBy, stateOf, judge, onward, answerFrom, givenOf, layoutOf, replyOf, touchedOn, touchedFor, watchAfter}
 use Rattle.monitor.specs.Shown.{shownAnswer}
 use Rattle.monitor.specs.declared.Answer.the-variants.{Ok, Bad, Refused}
 use Rattle.monitor.proofs.Marked.{each-split, past-some, to-first}
@@ -220,7 +222,7 @@ walk-within g p o f m l K M N t m′ l′ b q k e d c u v n r =
     r ∙ ap (monitorsGo g (layout p o f m′ l′) K m′ 0) (n ∙ ap₂ (λ (i j : ℕ). eachMarked K (shutFor g) (i - j) j M) (v ∙ ap₂ min u d) c)
     ∙ ap₂ (λ (a b : ℕ). monitorsGo g (layout p o f a b) K a 0 (shutBusy g K (min l 256) M)) e d
 
-module _ (g : Given) (y : Layout) (K : List ℕ) (i : ℕ) (M : List ℕ) (r : reached i M ≡ monitorsGo g (within y) K (within y .monitors) 0 (shutBusy g K (within y .letters) emptyMemory)) where
+module _ (g : Given) (y : Layout) (K : List ℕ) (i : ℕ) (M : List ℕ) (r : reached i M ≡ walkOf g y K) where
   step-any : moveBy g (within y) K (reached i M) ≡ stepOf g y K
   unfolding stepWithin
   step-any = ap (moveBy g (within y) K) r
@@ -233,15 +235,48 @@ module _ (g : Given) (y : Layout) (K : List ℕ) (i : ℕ) (M : List ℕ) (r : r
       either true = refl
       either false = refl
 
-  module _ (b : Bool) (f : b ≡ stuckAt i (y .monitors)) where
-    pub step-stops : b ≡ true → move i K (g .values) ≡ stepOf g y K
-    step-stops h = sym (taken (stuckAt i (y .monitors)) (move i K (g .values)) _ (sym f ∙ h)) ∙ step-any
+  -- where it goes on
+  step-moved : stuckAt i (y .monitors) ≡ false → move i (marksAfter 256 M) (writeMarked g (marksAfter 256 M) (writers g (within y .letters)) 0 (g .values)) ≡ stepOf g y K
+  step-moved h = sym (left (stuckAt i (y .monitors)) (move i K (g .values)) _ h) ∙ step-any
 
-    pub step-moves : b ≡ false → (N σ : List ℕ) → N ≡ marksAfter 256 M → (q l k : ℕ) → q ≡ part1 (getD (g .letters) 768 0) → l ≡ min (y .letters) 256 → k ≡ min q l → σ ≡ writeMarked g N k 0 (g .values)
-        → move i N σ ≡ stepOf g y K
-    step-moves h N σ a q l k u c v w =
-        ap₂ (λ (s t : List ℕ). move i s t) a (w ∙ ap₂ (λ (s : List ℕ) (j : ℕ). writeMarked g s j 0 (g .values)) a (v ∙ ap₂ min u c))
-        ∙ sym (left (stuckAt i (y .monitors)) (move i K (g .values)) _ (sym f ∙ h)) ∙ step-any
+  module _ (C W : List ℕ) (x a : ℕ) (d : x ≡ tickMask M C W (y .letters)) (e : a ≡ answerBy i (y .monitors) W x) where
+    same-mask : x ≡ maskAt g y K C W
+    same-mask = d ∙ ap (λ (z : Reached). tickMask (z .memory) C W (y .letters)) r
+
+    pub answer-right : a ≡ answerAt g y K C W
+    answer-right = e ∙ ap₂ (λ (j n : ℕ). answerBy j (y .monitors) W n) step-reached same-mask
+
+    module _ (b : Bool) (f : b ≡ isBad a) where
+      bad-told : isBad (answerAt g y K C W) ≡ b
+      bad-told = sym (f ∙ ap isBad answer-right)
+
+      pub step-stops : b ≡ true → stepped a K (g .values) W ≡ tickOf g y K C W
+      step-stops h = ap (λ (n : ℕ). stepped n K (g .values) W) answer-right ∙ sym (taken (isBad (answerAt g y K C W)) _ _ (bad-told ∙ h))
+
+      -- a good tick is one at which every monitor goes on
+      goes-on : b ≡ false → stuckAt i (y .monitors) ≡ false
+      goes-on h = by (stuckAt i (y .monitors)) refl e
+        where
+          by : (c : Bool) → stuckAt i (y .monitors) ≡ c → a ≡ cond c i (32 + firstBeyond W x) → c ≡ false
+          by true p q = let l = ltb-true i (min (y .monitors) 32) p in let n = ltb-false a fine (sym f ∙ h) in absurd (omega (arith, l, n, q))
+          by false p q = refl
+
+      pub step-moves : b ≡ false → (N σ U : List ℕ) → N ≡ marksAfter 256 M → (q l k : ℕ) → q ≡ part1 (getD (g .letters) 768 0) → l ≡ min (y .letters) 256 → k ≡ min q l
+          → σ ≡ writeMarked g N k 0 (g .values) → U ≡ windowsAfter W x → stepped a N σ U ≡ tickOf g y K C W
+      step-moves h N σ U p q l k u c v w z =
+          let s = step-moved (goes-on h) in
+          let m : N ≡ stepOf g y K .marks = p ∙ ap (λ (t : Move). t .marks) s in
+          let n : σ ≡ stepOf g y K .values = w ∙ ap₂ (λ (t : List ℕ) (j : ℕ). writeMarked g t j 0 (g .values)) p (v ∙ ap₂ min u c) ∙ ap (λ (t : Move). t .values) s in
+          ap₂ (λ (t ρ : List ℕ). stepped a t ρ U) m n
+          ∙ ap₂ (λ (j : ℕ) (X : List ℕ). stepped j (stepOf g y K .marks) (stepOf g y K .values) X) answer-right (z ∙ ap (windowsAfter W) same-mask)
+          ∙ sym (left (isBad (answerAt g y K C W)) _ _ (bad-told ∙ h))
+
+-- the marks after a step at which every monitor goes on are those of the memory
+pub marks-walked : (g : Given) (y : Layout) (K : List ℕ) → stuckAt (stepOf g y K .monitor) (y .monitors) ≡ false → stepOf g y K .marks ≡ marksAfter 256 (walkOf g y K .memory)
+marks-walked g y K h =
+    let a = walkOf g y K in
+    let e = step-reached g y K (a .monitor) (a .memory) refl in
+    sym (ap (λ (t : Move). t .marks) (step-moved g y K (a .monitor) (a .memory) refl (ap (λ (i : ℕ). stuckAt i (y .monitors)) e ∙ h)))
 
 -- ---- refusals
 
@@ -270,23 +305,42 @@ module _ (b : Bool) (n k w : ℕ) (f : b ≡ false) where
 
 -- ---- the watch after a take
 
-pub one-tick : (v : Watch) (K σ N : List ℕ) (w : ℕ)
-    → withState v (record { inner = record { marks = K; values = σ; last = w; totals = N }; oks = v .ticks + 1; stopped = v .stopped })
-    ≡ withState v (record { inner = record { marks = K; values = σ; last = w; totals = N }; oks = suc (v .ticks); stopped = v .stopped })
-one-tick v K σ N w =
-    let e : v .ticks + 1 ≡ suc (v .ticks) = omega arith in
-    ap (λ (n : ℕ). withState v (record { inner = record { marks = K; values = σ; last = w; totals = N }; oks = n; stopped = v .stopped })) e
+-- with the tick count n
+abbrev pub tickedTo : Watch → (marks values totals windows : List ℕ) → (word n : ℕ) → Watch
+tickedTo v K σ N W w n = withState v (record { inner = record { marks = K; values = σ; last = w; totals = N; windows = W }; oks = n; stopped = v .stopped })
+
+pub one-tick : (v : Watch) (K σ N W : List ℕ) (w : ℕ) → tickedTo v K σ N W w (v .ticks + 1) ≡ tickedTo v K σ N W w (suc (v .ticks))
+one-tick v K σ N W w = let e : v .ticks + 1 ≡ suc (v .ticks) = omega arith in ap (tickedTo v K σ N W w) e
 
 -- ---- calls
 
--- a step on lent tables is one of the watch whose tables they are
-pub lent-step : (v : Watch) (s : Moving) (w : ℕ) (t : List (List ℕ)) (a : Move) → t ≡ tablesOf v → a ≡ stepOf (given t (s .values) (w ∷ s .last ∷ [])) (layoutOf v) (s .marks)
-    → a ≡ stepFrom v s w
-lent-step v s w t a e d = d ∙ ap (λ (u : List (List ℕ)). stepOf (given u (s .values) (w ∷ s .last ∷ [])) (layoutOf v) (s .marks)) e
+-- a tick on lent tables is one of the watch whose tables they are
+abbrev pub tickFrom : Watch → Moving → ℕ → Stepped
+tickFrom v s w = tickOf (givenOf v (s .values) (w ∷ s .last ∷ [])) (layoutOf v) (s .marks) (v .counted) (s .windows)
 
-pub lent-peek : (v : Watch) (s : Moving) (w : ℕ) (t : List (List ℕ)) (i : ℕ) → t ≡ tablesOf v → i ≡ stepOf (given t (s .values) (w ∷ s .last ∷ [])) (layoutOf v) (s .marks) .monitor
-    → i ≡ stepFrom v s w .monitor
-lent-peek v s w t i e d = d ∙ ap (λ (a : Move). a .monitor) (lent-step v s w t _ e refl)
+pub lent-step : (v : Watch) (s : Moving) (w : ℕ) (t : List (List ℕ)) (a : Stepped) → t ≡ tablesOf v
+    → a ≡ tickOf (given t (s .values) (w ∷ s .last ∷ [])) (layoutOf v) (s .marks) (v .counted) (s .windows) → a ≡ tickFrom v s w
+lent-step v s w t a e d = d ∙ ap (λ (u : List (List ℕ)). tickOf (given u (s .values) (w ∷ s .last ∷ [])) (layoutOf v) (s .marks) (v .counted) (s .windows)) e
+
+pub lent-peek : (v : Watch) (s : Moving) (w : ℕ) (t : List (List ℕ)) (a : ℕ) → t ≡ tablesOf v
+    → a ≡ answerAt (given t (s .values) (w ∷ s .last ∷ [])) (layoutOf v) (s .marks) (v .counted) (s .windows) → a ≡ answerFrom v s w
+lent-peek v s w t a e d = d ∙ ap (λ (u : List (List ℕ)). answerAt (given u (s .values) (w ∷ s .last ∷ [])) (layoutOf v) (s .marks) (v .counted) (s .windows)) e
+
+-- its answer is that of a look; where it is bad it leaves all as it was, and else what moves on
+module _ (v : Watch) (s : Moving) (w a : ℕ) (K σ W : List ℕ) (t : stepped a K σ W ≡ tickFrom v s w) where
+  tick-answer : a ≡ answerFrom v s w
+  tick-answer = ap (λ (z : Stepped). z .answer) t ∙ either (isBad (answerFrom v s w))
+    where
+      either : (b : Bool) → cond b (stepped (answerFrom v s w) (s .marks) (s .values) (s .windows)) (stepped (answerFrom v s w) (onward v s w .marks) (onward v s w .values) (onward v s w .windows)) .answer
+          ≡ answerFrom v s w
+      either true = refl
+      either false = refl
+
+  pub tick-kept : (b : Bool) → b ≡ isBad a → b ≡ true → stepped a K σ W ≡ stepped (answerFrom v s w) (s .marks) (s .values) (s .windows)
+  tick-kept b f h = t ∙ taken (isBad (answerFrom v s w)) _ _ (sym (ap isBad tick-answer) ∙ sym f ∙ h)
+
+  tick-left : (b : Bool) → b ≡ isBad a → b ≡ false → stepped a K σ W ≡ stepped (answerFrom v s w) (onward v s w .marks) (onward v s w .values) (onward v s w .windows)
+  tick-left b f h = t ∙ left (isBad (answerFrom v s w)) _ _ (sym (ap isBad tick-answer) ∙ sym f ∙ h)
 
 -- and so are the rows touched, by lent counts
 pub lent-touched : (v : Watch) (t cs : List (List ℕ)) (n : ℕ) → t ≡ tablesOf v → cs ≡ countsOf v
@@ -340,34 +394,34 @@ module _ (v : Watch) (w n : ℕ) (e : n ≡ refusedBy (v .stopped) (v .ticks) (v
       by false false true h = absurd (let q : 15 ≡ 0 = sym h ∙ z in omega (arith, q))
       by false false false h = refl
 
-  module _ (z : n ≡ 0) (i : ℕ) (s : i ≡ stepFrom v (stateOf v .inner) w .monitor) (b : Bool) (f : b ≡ stuckAt i (v .monitors)) where
-    reply-reached : replyOf v w ≡ verdictReply (cond b (broken i) clean)
+  module _ (z : n ≡ 0) (a : ℕ) (s : a ≡ answerFrom v (stateOf v .inner) w) (b : Bool) (f : b ≡ isBad a) where
+    reply-reached : replyOf v w ≡ verdictReply (cond b (broken a) clean)
     reply-reached =
-        reply-judged z ∙ ap (λ (j : ℕ). verdictReply (cond (stuckAt j (v .monitors)) (broken j) clean)) (sym s)
-        ∙ ap (λ (a : Bool). verdictReply (cond a (broken i) clean)) (sym f)
+        reply-judged z ∙ ap (λ (j : ℕ). verdictReply (verdictBy j)) (sym s)
+        ∙ ap (λ (c : Bool). verdictReply (cond c (broken a) clean)) (sym f)
 
-    pub look-bad : b ≡ true → shownAnswer (Bad i) ≡ replyOf v w
-    look-bad h = sym (reply-reached ∙ ap verdictReply (taken b (broken i) clean h))
+    pub look-bad : b ≡ true → shownAnswer (Bad a) ≡ replyOf v w
+    look-bad h = sym (reply-reached ∙ ap verdictReply (taken b (broken a) clean h))
 
     pub look-ok : b ≡ false → shownAnswer Ok ≡ replyOf v w
-    look-ok h = sym (reply-reached ∙ ap verdictReply (left b (broken i) clean h))
+    look-ok h = sym (reply-reached ∙ ap verdictReply (left b (broken a) clean h))
 
   -- a take answers as a look does, and moves the watch on
-  module _ (z : n ≡ 0) (i : ℕ) (K σ : List ℕ) (s : move i K σ ≡ stepFrom v (stateOf v .inner) w) (b : Bool) (f : b ≡ stuckAt i (v .monitors)) (u : Watch) where
+  module _ (z : n ≡ 0) (a : ℕ) (K σ W : List ℕ) (s : stepped a K σ W ≡ tickFrom v (stateOf v .inner) w) (b : Bool) (f : b ≡ isBad a) (u : Watch) where
     pub take-bad : b ≡ true → u ≡ withState v (record { inner = stateOf v .inner; oks = v .ticks; stopped = true })
-        → (shownAnswer (Bad i) ≡ replyOf v w) × (u ≡ watchAfter v w)
+        → (shownAnswer (Bad a) ≡ replyOf v w) × (u ≡ watchAfter v w)
     unfolding watchAfter
     take-bad h q =
-        let r = look-bad z i (ap (λ (a : Move). a .monitor) s) b f h in
+        let r = look-bad z a (tick-answer v (stateOf v .inner) w a K σ W s) b f h in
         (r, q ∙ ap (λ (t : Reply). withState v (after (onward v) (stateOf v) w t)) r)
 
-    pub take-ok : b ≡ false → (N : List ℕ) → N ≡ countMet K (min (v .letters) 256) (v .totals) → u ≡ withState v (record { inner = record { marks = K; values = σ; last = w; totals = N }; oks = suc (v .ticks); stopped = v .stopped })
+    pub take-ok : b ≡ false → (N : List ℕ) → N ≡ countMet K (min (v .letters) 256) (v .totals) → u ≡ tickedTo v K σ N W w (suc (v .ticks))
         → (shownAnswer Ok ≡ replyOf v w) × (u ≡ watchAfter v w)
     unfolding watchAfter
     take-ok h N c q =
-        let r = look-ok z i (ap (λ (a : Move). a .monitor) s) b f h in (
+        let r = look-ok z a (tick-answer v (stateOf v .inner) w a K σ W s) b f h in (
           r,
-          q ∙ ap (λ (n : List ℕ). withState v (record { inner = record { marks = K; values = σ; last = w; totals = n }; oks = suc (v .ticks); stopped = v .stopped })) c
-              ∙ ap (λ (a : Move). withState v (record { inner = record { marks = a .marks; values = a .values; last = w; totals = countMet (a .marks) (min (v .letters) 256) (v .totals) }; oks = suc (v .ticks); stopped = v .stopped })) s
+          q ∙ ap (λ (M : List ℕ). tickedTo v K σ M W w (suc (v .ticks))) c
+              ∙ ap (λ (t : Stepped). tickedTo v (t .marks) (t .values) (countMet (t .marks) (min (v .letters) 256) (v .totals)) (t .windows) w (suc (v .ticks))) (tick-left v (stateOf v .inner) w a K σ W s b f h)
               ∙ ap (λ (t : Reply). withState v (after (onward v) (stateOf v) w t)) r,
         )

@@ -140,7 +140,7 @@ module _ (text : List ℕ) (o : Opened) (e : openText text ≡ value o) where
       rw (monitors, few, p, q) (let z = few-rows in omega (arith, r, b, z))
 
   -- After any calls, a tick touches on the watch as many rows as the definition says.
-  pub touched-right : (cs : List Call) → touchedOn (watchAfterAll (watchOf (value o)) cs) ≡ touched (o .monitors) (standing (o .monitors) (o .initial) (o .wires) cs .inner .ticks)
+  pub touched-right : (cs : List Call) → touchedOn (watchAfterAll (watchOf (value o)) cs) ≡ touched (o .monitors) (standing (o .limits) (o .monitors) (o .initial) (o .wires) cs .inner .ticks)
   unfolding touchedOn
   touched-right cs =
       let v = watchOf (value o) in
@@ -153,10 +153,10 @@ module _ (text : List ℕ) (o : Opened) (e : openText text ≡ value o) where
   few-touched ts = let a = c .rows-are in let b = touched-most (o .monitors) ts in omega (arith, a, b)
 
   -- Every call of a list is answered as W3 to W6 and W12 say.
-  pub all-answered : (cs : List Call) → AllAnswered (o .monitors) (o .initial) (o .wires) cs (answersOf (watchOf (value o)) cs)
+  pub all-answered : (cs : List Call) → AllAnswered (o .limits) (o .monitors) (o .initial) (o .wires) cs (answersOf (watchOf (value o)) cs)
   all-answered cs =
       let v = watchOf (value o) in (
-        subst (AllRightly (o .monitors) (o .initial) (o .wires) cs) (sym (replies-in v cs ∙ calls-answered text o e cs)) (replies-rightly (o .monitors) (o .initial) (o .wires) cs),
+        subst (AllRightly (o .limits) (o .monitors) (o .initial) (o .wires) cs) (sym (replies-in v cs ∙ calls-answered text o e cs)) (replies-rightly (o .limits) (o .monitors) (o .initial) (o .wires) cs),
         λ n h. rw (answers-at v cs n h) (tells (watchAfterAll v (upTo n cs)) _ (touched-right (upTo n cs)) (getD cs n (take 0))),
       )
 

@@ -186,7 +186,7 @@ module _ (text : List ℕ) (o : Opened) (e : openText text ≡ value o) where
 
   -- After any calls, the walk of a tick with any word visits at most three times as many rows as the tick touches.
   pub visits-few : (cs : List Call) (w : ℕ)
-      → visitsOn (watchAfterAll (watchOf (value o)) cs) w ≤ 3 * touched (o .monitors) (standing (o .monitors) (o .initial) (o .wires) cs .inner .ticks)
+      → visitsOn (watchAfterAll (watchOf (value o)) cs) w ≤ 3 * touched (o .monitors) (standing (o .limits) (o .monitors) (o .initial) (o .wires) cs .inner .ticks)
   visits-few cs w =
       let v = watchOf (value o) in
       let u = watchAfterAll v cs in

@@ -1,15 +1,15 @@
 -- One tick of a watch is one tick of the meaning's machine: the same verdict, and the same positions and store values after it. Assumes nothing.
-use mathlib.Core.Path.{_≡_, refl, sym, ap, ap₂, _∙_, subst}
+use mathlib.Core.Path.{_≡_, refl, sym, ap, _∙_, subst}
 use mathlib.Core.Bool.{Bool, true, false, not, cond}
-use mathlib.Core.List.{List, [], _∷_, _++_}
+use mathlib.Core.List.{List, [], _∷_}
 use mathlib.Core.Option.{Option, none, some}
 use mathlib.Core.Logic.{⊎-elim}
 use Prim.Native.Nat.{ℕ, zero, suc, _+_, _-_, _<_, _≤_}
 use native.Mathlib.Omega.{arith}
 use lib.Dec.{T, eqb, ltb}
 use borrow.Author.Tests.{le-ltb, lt-ltb, eq-eqb, ne-eqb}
-use lib.ListN.{length, length-drop, getD, List·getD-append, take, drop, replicate, length-replicate}
-use lib.Seq.{sets-eq, length-take-le, getD-take, getD-drop, getD-append-add}
+use lib.ListN.{length, length-take, getD, List·getD-eq-default, take, drop}
+use lib.Seq.{getD-take, getD-drop}
 use Rattle.meaning.specs.Lists.{_∈_, total, member}
 use Rattle.meaning.specs.Expression.{Exp, size, Ordered}
 use Rattle.meaning.specs.Fit.{Tick}
@@ -19,7 +19,7 @@ use Rattle.meaning.proofs.Numbering.{between}
 use Rattle.meaning.proofs.Sets.{go-inside}
 use Rattle.monitor.specs.Letters.{Given}
 use Rattle.monitor.specs.Ticks.{Layout, marksAfter, writeMarked, writers, Reached, Move, move, emptyMemory, shutBusy, moveBy, monitorsGo, stepWithin}
-use Rattle.monitor.proofs.Padded.{zeros-at}
+use Rattle.monitor.proofs.Padded.{padded-get}
 use Rattle.monitor.proofs.Memory.{Marked, Exactly}
 use Rattle.monitor.proofs.Going.{AllGo, Went, monitors-go, spread}
 use Rattle.monitor.proofs.Moves.{AllInside, all-marked, MarksAll, marks-all, AllWriteAs, writes-all}
@@ -48,29 +48,18 @@ all-inside i l K (m ∷ ms) (x ∷ xs) t nss h o e =
 
 -- ---- the marks after a tick
 
-module _ (n : ℕ) (M : List ℕ) (few : n ≤ 256) (long : length M ≡ 1280) where
-  marked-long : length (take n (drop 1024 M)) ≡ n
-  marked-long = length-take-le n (drop 1024 M) (let d = length-drop 1024 M in omega (arith, d, long, few))
+module _ (n : ℕ) (M : List ℕ) (few : n ≤ 256) where
+  taken-long : length (take n (drop 1024 M)) ≤ n
+  taken-long = let l = length-take n (drop 1024 M) in omega (arith, l)
 
-  as-list : marksAfter n M ≡ take n (drop 1024 M) ++ drop n (replicate 288 0)
-  as-list =
-      let z = length-replicate {A = ℕ} 288 0 in
-      let l = marked-long in
-      let e : 0 + length (take n (drop 1024 M)) ≡ n = omega (arith, l) in
-      sets-eq (take n (drop 1024 M)) (replicate 288 0) 0 (omega (arith, l, z, few)) ∙ ap (λ (k : ℕ). take n (drop 1024 M) ++ drop k (replicate 288 0)) e
+  after-is : (k : ℕ) → getD (marksAfter n M) k 0 ≡ getD (take n (drop 1024 M)) k 0
+  after-is = padded-get 288 (take n (drop 1024 M)) (let l = taken-long in omega (arith, l, few))
 
-  after-at : (k : ℕ) → k < n → getD (marksAfter n M) k 0 ≡ getD M (1024 + k) 0
-  after-at k c =
-      let l = marked-long in
-      ap (λ (z : List ℕ). getD z k 0) as-list ∙ List·getD-append (take n (drop 1024 M)) (drop n (replicate 288 0)) 0 k (omega (arith, l, c))
-      ∙ getD-take n (drop 1024 M) k 0 c ∙ getD-drop 1024 M k 0
+  pub after-at : (k : ℕ) → k < n → getD (marksAfter n M) k 0 ≡ getD M (1024 + k) 0
+  after-at k c = after-is k ∙ getD-take n (drop 1024 M) k 0 c ∙ getD-drop 1024 M k 0
 
   after-beyond : (k : ℕ) → n ≤ k → getD (marksAfter n M) k 0 ≡ 0
-  after-beyond k c =
-      let l = marked-long in
-      let e : k ≡ length (take n (drop 1024 M)) + (k - n) = omega (arith, l, c) in
-      ap₂ (λ (z : List ℕ) (q : ℕ). getD z q 0) as-list e ∙ getD-append-add (take n (drop 1024 M)) (drop n (replicate 288 0)) (k - n) 0
-      ∙ getD-drop n (replicate 288 0) (k - n) 0 ∙ zeros-at 288 (n + (k - n))
+  after-beyond k c = after-is k ∙ List·getD-eq-default (take n (drop 1024 M)) 0 {n = k} (let l = taken-long in omega (arith, l, c))
 
 zero-or : (v : ℕ) → v ≤ 1 → (v ≡ 1 → ⊥) → v ≡ 0
 zero-or zero h f = refl
@@ -85,7 +74,7 @@ pub record Steps (ms : List Exp) (t : Tick) (σ : List ℕ) (pad : List ℕ → 
   pub goes : (nss : List (List ℕ)) → a ≡ fine nss
       → (z .monitor ≡ length ms) × MarksAll (z .marks) 0 0 ms (keptEach ms nss) × (z .values ≡ pad (writeEach t ms nss σ)) × (length (writeEach t ms nss σ) ≡ stores)
 
-module _ (Good : List ℕ → Type 0) (long : (M : List ℕ) → Good M → length M ≡ 1280) (bits : (M : List ℕ) → Good M → (l : ℕ) → l < 256 → getD M (1024 + l) 0 ≤ 1)
+module _ (Good : List ℕ → Type 0) (bits : (M : List ℕ) → Good M → (l : ℕ) → l < 256 → getD M (1024 + l) 0 ≤ 1)
     (g : Given) (t : Tick) (y : Layout) (K : List ℕ) (first : Good (shutBusy g K (y .letters) emptyMemory)) (clear : (l : ℕ) → Marked (shutBusy g K (y .letters) emptyMemory) l → ⊥) (ms : List Exp) (ordered : (m : Exp) → m ∈ ms → Ordered 0 m)
     (monitors : y .monitors ≡ length ms) (few-monitors : length ms ≤ 32) (letters : y .letters ≡ total size ms) (few-letters : total size ms ≤ 256)
     (enough : (Q ρ : List ℕ) → writeMarked g Q (writers g (total size ms)) 0 ρ ≡ writeMarked g Q (total size ms) 0 ρ) where
@@ -96,7 +85,7 @@ module _ (Good : List ℕ → Type 0) (long : (M : List ℕ) → Good M → leng
   -- the marks in a memory, letter by letter
   marked-if : (M ks : List ℕ) → Exactly Good begin ks M → (k : ℕ) → k < total size ms
       → eqb (getD (marksAfter 256 M) k 0) 0 ≡ not (member k ks)
-  marked-if M ks x k c = ap (λ (z : ℕ). eqb z 0) (after-at 256 M (omega arith) (long M (x .good)) k (omega (arith, c, few-letters))) ∙ by (member k ks) refl
+  marked-if M ks x k c = ap (λ (z : ℕ). eqb z 0) (after-at 256 M (omega arith) k (omega (arith, c, few-letters))) ∙ by (member k ks) refl
     where
       by : (b : Bool) → member k ks ≡ b → eqb (getD M (1024 + k) 0) 0 ≡ not b
       by true e = ne-eqb (getD M (1024 + k) 0) 0 (λ z. let p = x .adds k (member-∈ k ks (subst T (sym e) tt)) in absurd (omega (arith, p, z)))
@@ -128,7 +117,7 @@ module _ (Good : List ℕ → Type 0) (long : (M : List ℕ) → Good M → leng
         let n = total size ms in
         let Q = marksAfter 256 (z .memory) in
         let a = all-marked Q n [] 0 ms nss inside (λ k i. absurd (no-∈ i)) (λ k c. marked-if (z .memory) (spread 0 ms nss) x k c) (omega arith) in
-        let m = marks-all Q 0 0 ms nss ordered (λ k u v. after-beyond 256 (z .memory) (omega arith) (long (z .memory) (x .good)) (256 + k) (omega arith)) a in
+        let m = marks-all Q 0 0 ms nss ordered (λ k u v. after-beyond 256 (z .memory) (omega arith) (256 + k) (omega arith)) a in
         let w = writes-all g t Q pad stores 0 ms nss ordered a (writes Q) σ long-values in
         rw (b, letters) (omega (arith, p), m, enough Q (g .values) ∙ ap (writeMarked g Q n 0) padded ∙ w .0, w .1)
 

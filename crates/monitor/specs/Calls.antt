@@ -18,15 +18,17 @@ use Rattle.counts.specs.Counts.{countsOf}
 use Rattle.monitor.specs.Letters.{Given, given}
 use Rattle.monitor.specs.Threads.{threadsOf}
 use Rattle.monitor.specs.Tally.{counts, touchedOf}
-use Rattle.monitor.specs.Ticks.{Layout, layout, within, firstMarked, lettersEnd, countMet, Move, stepOf, verdictOf}
+use Rattle.monitor.specs.Ticks.{Layout, layout, within, firstMarked, lettersEnd, countMet, Move, stepOf}
+use Rattle.monitor.specs.Limited.{maskAt, answerAt, verdictBy, windowsAfter}
 use Rattle.monitor.specs.Visits.{visitsWithin}
 
--- W7 and W13: what moves from tick to tick, the marks, the store values, the word of the last tick, and how often each letter was met.
+-- W7 and W13: what moves from tick to tick, the marks, the store values, the word of the last tick, how often each letter was met, and the windows of the limits.
 pub record Moving : Type 0 where
   pub marks : List ℕ
   pub values : List ℕ
   pub last : ℕ
   pub totals : List ℕ
+  pub windows : List ℕ
 
 -- the rest of a watch: what each letter looks at, 256 places on what it wants, 512 on the wires that must be as before, 768 on the row of the thread that it goes on in, or 0; and with that of letter 0 the
 -- numbers of letters up to the last that writes, up to the last that goes on in a thread, and before the first that does
@@ -67,9 +69,16 @@ layoutOf v = layout (v .places) (v .own) (v .firsts) (v .monitors) (v .letters)
 abbrev pub stepFrom : Watch → Moving → ℕ → Move
 stepFrom v s w = stepOf (givenOf v (s .values) (w ∷ s .last ∷ [])) (layoutOf v) (s .marks)
 
+-- which limits count the tick, and what it is answered with
+abbrev pub maskFrom : Watch → Moving → ℕ → ℕ
+maskFrom v s w = maskAt (givenOf v (s .values) (w ∷ s .last ∷ [])) (layoutOf v) (s .marks) (v .counted) (s .windows)
+
+abbrev pub answerFrom : Watch → Moving → ℕ → ℕ
+answerFrom v s w = answerAt (givenOf v (s .values) (w ∷ s .last ∷ [])) (layoutOf v) (s .marks) (v .counted) (s .windows)
+
 -- what is made of a word
 abbrev pub judge : Watch → Moving → ℕ → Verdict
-judge v s w = verdictOf (layoutOf v) (stepFrom v s w)
+judge v s w = verdictBy (answerFrom v s w)
 
 abbrev pub onward : Watch → Moving → ℕ → Moving
 onward v s w =
@@ -78,6 +87,7 @@ onward v s w =
       values = stepFrom v s w .values;
       last = w;
       totals = countMet (stepFrom v s w .marks) (min (v .letters) 256) (s .totals);
+      windows = windowsAfter (s .windows) (maskFrom v s w);
     }
 
 -- n numbers of a list from l on
@@ -99,7 +109,7 @@ totalsOf v = totalsIn (v .firsts) (v .totals) (v .monitors) (v .letters)
 
 -- a watch's state between two calls
 abbrev pub stateOf : Watch → State Moving
-stateOf v = record { inner = record { marks = v .marks; values = v .values; last = v .before; totals = v .totals }; oks = v .ticks; stopped = v .stopped }
+stateOf v = record { inner = record { marks = v .marks; values = v .values; last = v .before; totals = v .totals; windows = v .windows }; oks = v .ticks; stopped = v .stopped }
 
 abbrev pub withState : Watch → State Moving → Watch
 withState v s =
@@ -124,6 +134,8 @@ withState v s =
       ticks = s .oks;
       totals = s .inner .totals;
       stopped = s .stopped;
+      counted = v .counted;
+      windows = s .inner .windows;
     }
 
 -- W2: the reply to a word, looked at or taken, and the watch after its take. X11: 16, 17, 15 and then the verdict, as `meaning` has them, by what the watch makes of the word.
@@ -173,7 +185,7 @@ watchAfterAll v [] = v
 watchAfterAll v (c ∷ cs) = watchAfterAll (watchAfterCall v c) cs
 
 -- W1, W7 to W10 and W13: what a watch u, opened as v with the monitors ms, has where the meaning stands at h: tick count, stop, the word before, the store values, and how often
--- each letter of each monitor was met, in their order, zeros behind these; all else but the marks is as in v
+-- each letter of each monitor was met, in their order, zeros behind these; all else but the marks and the windows of limits is as in v
 pub record Held (ms : List Exp) (v u : Watch) (h : State History) : Type 0 where
   pub tables : u ≡ withState v (stateOf u)
   pub ticks : u .ticks ≡ h .oks

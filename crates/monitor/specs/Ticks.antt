@@ -1,11 +1,10 @@
--- A tick, from a watch and a word to the answer and the new watch (docs/REFERENCE.md, W6 to W8, F19 and F21); over any watch. Assumes nothing.
+-- A tick by the monitors, from a watch and a word to the monitor reached, the marks and the store values (docs/REFERENCE.md, W6 to W8, F19 and F21); over any watch. Assumes nothing.
 use mathlib.Core.Bool.{Bool, true, cond}
 use mathlib.Core.List.{List}
 use Prim.Native.Nat.{ℕ, zero, suc, _+_, _-_, _%_, min}
 use lib.Dec.{eqb, leb, ltb}
 use lib.ListN.{getD, set, take, drop, replicate}
 use lib.Seq.{sets}
-use Rattle.meaning.specs.Fit.{Verdict, ok, bad}
 use Rattle.words.specs.Words.{part1}
 use Rattle.monitor.specs.Letters.{Given, threadRowOf, threaded, unthreaded, writeLetter}
 use Rattle.monitor.specs.Walk.{Told, told, askM, leaveM}
@@ -166,7 +165,3 @@ stepOf g y marks = stepWithin g (within y) marks
 -- whether a step that ended at monitor i, of m, ended at one that does not go on
 abbrev pub stuckAt : (i m : ℕ) → Bool
 stuckAt i m = ltb i (min m 32)
-
--- the verdict of a step; W6: "the lowest monitor that does not fit"
-abbrev pub verdictOf : Layout → Move → Verdict
-verdictOf y a = cond (stuckAt (a .monitor) (y .monitors)) (bad (a .monitor)) ok

@@ -1,9 +1,11 @@
 // The watch at work: `look` answers what a word would come to, and `take` answers the same, tells how many rows the tick touched,
 // and gives the watch that it moved on to. For loops, which must not copy a watch, `tables_of` and `counts_of` lay out once what
 // the ticks need; `refused_by`, `peek` or `step`, `is_bad`, `touched` and `count_met` are what a look or a take is made of.
-// What they answer is said for every watch, also one that no call ever gave (specs/Calls.antt, specs/Ticks.antt).
+// What they answer is said for every watch, also one that no call ever gave (specs/Calls.antt, specs/Ticks.antt,
+// specs/Limited.antt).
 mod busy;
 mod letters;
+mod limits;
 mod marks;
 mod positions;
 mod tables;
@@ -15,6 +17,9 @@ mod walk;
 use busy::shut_marked;
 pub use counts::counts_of;
 use letters::write_letter;
+use limits::answer_by;
+use limits::pass_tick;
+use limits::tick_mask;
 use marks::first_marked;
 use marks::put_marks;
 pub use positions::letters_end;
@@ -35,7 +40,8 @@ ghost use mathlib.Core.List.{List, [], _∷_};
 ghost use Prim.Native.Nat.{ℕ, suc, _≤_, _<_, min};
 ghost use Rattle.meaning.specs.Calls.{isStray};
 ghost use Rattle.monitor.specs.Letters.{given};
-ghost use Rattle.monitor.specs.Ticks.{layout, reached, shutBusy, monitorsGo, writeIf, writeMarked, move, stepOf, stuckAt};
+ghost use Rattle.monitor.specs.Ticks.{layout, reached, shutBusy, monitorsGo, writeIf, writeMarked};
+ghost use Rattle.monitor.specs.Limited.{answerAt, isBad, stepped, tickOf};
 ghost use Rattle.monitor.specs.Calls.{stateOf, withState, refusedBy, replyOf, touchedFor, watchAfter};
 ghost use Rattle.monitor.specs.Shown.{shownAnswer};
 
@@ -113,15 +119,18 @@ fn walk_on(
     )
 }
 
-// Whether a walk that ended at a monitor, of so many, ended at one that does not go on.
-pub fn is_bad(monitor: usize, monitors: usize) -> bool
-    ensures { λ r. ⌜ r ≡ stuckAt monitor monitors ⌝ }
+// The answer to a good tick. A bad one is answered with the first monitor that does not go on, or with 32 and the lowest limit that
+// the tick is beyond.
+const FINE: usize = 40;
+
+// Whether an answer is that to a bad tick.
+pub fn is_bad(answer: usize) -> bool
+    ensures { λ r. ⌜ r ≡ isBad answer ⌝ }
 {
-    monitor < least(monitors, 32)
+    answer < FINE
 }
 
-// What a look does with a word that is not refused, on lent tables and with the word before: the first monitor that does not go
-// on, or how many there are.
+// What a look does with a word that is not refused, on lent tables and with the word before: its answer.
 pub fn peek<'a>(
     tables: &'a [[u64; 1024]; 4],
     places: &'a [u16; 256],
@@ -129,16 +138,18 @@ pub fn peek<'a>(
     firsts: &'a [u16; 32],
     monitors: usize,
     letters: usize,
+    counted: &'a [u8; 256],
     marks: &'a [u8; 288],
     values: &'a [u64; 16],
+    windows: &'a [u16; 1056],
     past: u64,
     word: u64,
 ) -> usize
-    ensures { λ r. ⌜ r ≡ stepOf (given (now (tables .entry)) (now (values .entry)) (word ∷ past ∷ [])) (layout (now (places .entry)) (now (own .entry)) (now (firsts .entry)) monitors letters) (now (marks .entry)) .monitor ⌝ }
+    ensures { λ r. ⌜ r ≡ answerAt (given (now (tables .entry)) (now (values .entry)) (word ∷ past ∷ [])) (layout (now (places .entry)) (now (own .entry)) (now (firsts .entry)) monitors letters) (now (marks .entry)) (now (counted .entry)) (now (windows .entry)) ⌝ }
 {
     let pair = [word, past];
     let mut memory = [0u8; 1280];
-    walk_on(
+    let monitor = walk_on(
         monitors,
         letters,
         marks,
@@ -149,11 +160,13 @@ pub fn peek<'a>(
         &mut memory,
         &pair,
         values,
-    )
+    );
+    let mask = tick_mask(letters, &memory, counted, windows);
+    answer_by(monitor, monitors, windows, mask)
 }
 
-// What a take does with a word that is not refused: the same, and marks and store values are then those after the tick, or as they
-// were where a monitor does not go on. The tick count, the stop, the word before and the totals are the caller's to keep.
+// What a take does with a word that is not refused: the same, and marks, store values and windows are then those after the tick, or
+// as they were where it is bad. The tick count, the stop, the word before and the totals are the caller's to keep.
 pub fn step<'a>(
     tables: &'a [[u64; 1024]; 4],
     places: &'a [u16; 256],
@@ -161,12 +174,14 @@ pub fn step<'a>(
     firsts: &'a [u16; 32],
     monitors: usize,
     letters: usize,
+    counted: &'a [u8; 256],
     marks: &mut [u8; 288],
     values: &mut [u64; 16],
+    windows: &mut [u16; 1056],
     past: u64,
     word: u64,
 ) -> usize
-    ensures { λ r. ⌜ move r (now (marks .exit)) (now (values .exit)) ≡ stepOf (given (now (tables .entry)) (now (values .entry)) (word ∷ past ∷ [])) (layout (now (places .entry)) (now (own .entry)) (now (firsts .entry)) monitors letters) (now (marks .entry)) ⌝ }
+    ensures { λ r. ⌜ stepped r (now (marks .exit)) (now (values .exit)) (now (windows .exit)) ≡ tickOf (given (now (tables .entry)) (now (values .entry)) (word ∷ past ∷ [])) (layout (now (places .entry)) (now (own .entry)) (now (firsts .entry)) monitors letters) (now (marks .entry)) (now (counted .entry)) (now (windows .entry)) ⌝ }
 {
     let words = [word, past];
     let mut memory = [0u8; 1280];
@@ -182,20 +197,23 @@ pub fn step<'a>(
         &words,
         values,
     );
-    if is_bad(monitor, monitors) {
-        return monitor;
+    let mask = tick_mask(letters, &memory, counted, windows);
+    let number = answer_by(monitor, monitors, windows, mask);
+    if is_bad(number) {
+        return number;
     }
     put_marks(&memory, marks);
     let writers = least(part1(tables[LETTERS][THREADS]), least(letters, 256));
     write_marked(writers, &words, marks, tables, values);
-    monitor
+    pass_tick(windows, mask);
+    number
 }
 
 // ---- calls
 
 pub enum Answer {
     Ok,
-    // The monitor.
+    // The monitor, or 32 and the limit.
     Bad(usize),
     // The refusal's number.
     Refused(u8),
@@ -250,16 +268,18 @@ fn moved_on(
     marks: [u8; 288],
     values: [u64; 16],
     totals: [u32; 256],
+    windows: [u16; 1056],
     word: u64,
 ) -> Watch
     requires { ⌜ watch .ticks < 1000000 ⌝ }
-    ensures { λ r. ⌜ r ≡ withState watch (record { inner = record { marks = marks; values = values; last = word; totals = totals }; oks = suc (watch .ticks); stopped = watch .stopped }) ⌝ }
+    ensures { λ r. ⌜ r ≡ withState watch (record { inner = record { marks = marks; values = values; last = word; totals = totals; windows = windows }; oks = suc (watch .ticks); stopped = watch .stopped }) ⌝ }
 {
     let mut next = watch;
     next.marks = marks;
     next.values = values;
     next.before = word;
     next.totals = totals;
+    next.windows = windows;
     next.ticks = next.ticks + 1;
     next
 }
@@ -273,20 +293,22 @@ pub fn look(watch: Watch, word: u64) -> Answer
         return Answer::Refused(refusal);
     }
     let tables = tables_of(watch);
-    let monitor = peek(
+    let answer = peek(
         &tables,
         &watch.places,
         &watch.own,
         &watch.firsts,
         watch.monitors,
         watch.letters,
+        &watch.counted,
         &watch.marks,
         &watch.values,
+        &watch.windows,
         watch.before,
         word,
     );
-    if is_bad(monitor, watch.monitors) {
-        return Answer::Bad(monitor);
+    if is_bad(answer) {
+        return Answer::Bad(answer);
     }
     Answer::Ok
 }
@@ -317,29 +339,32 @@ pub fn take(watch: Watch, word: u64) -> Taken
     );
     let mut marks = watch.marks;
     let mut values = watch.values;
-    let monitor = step(
+    let mut windows = watch.windows;
+    let answer = step(
         &tables,
         &watch.places,
         &watch.own,
         &watch.firsts,
         watch.monitors,
         watch.letters,
+        &watch.counted,
         &mut marks,
         &mut values,
+        &mut windows,
         watch.before,
         word,
     );
-    if is_bad(monitor, watch.monitors) {
+    if is_bad(answer) {
         let next = stopped(watch);
         return Taken {
-            answer: Answer::Bad(monitor),
+            answer: Answer::Bad(answer),
             touched: rows,
             watch: next,
         };
     }
     let mut totals = watch.totals;
     count_met(watch.letters, &marks, &mut totals);
-    let next = moved_on(watch, marks, values, totals, word);
+    let next = moved_on(watch, marks, values, totals, windows, word);
     Taken {
         answer: Answer::Ok,
         touched: rows,

@@ -55,7 +55,7 @@ fn marked(starts: u8) -> [u8; 288] {
 }
 
 // A look and a take of a word by 32 monitors, each with row 0 as its own and the last with all 256 letters, each met as often as can be
-// told.
+// told, and counted by every limit, of more than there are.
 fn call(table: [u64; 1024], starts: u8, ticks: u64, stopped: bool) {
     let places = fourth();
     let marks = marked(starts);
@@ -80,6 +80,8 @@ fn call(table: [u64; 1024], starts: u8, ticks: u64, stopped: bool) {
         ticks,
         totals: [4294967295; 256],
         stopped,
+        counted: [255; 256],
+        windows: [65535; 1056],
     };
     let looked = monitor::look(watch, 0);
     show::answer(b"look ", looked);

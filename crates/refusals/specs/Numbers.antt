@@ -72,3 +72,11 @@ full = 17
 -- a buffer smaller than what is to be written there
 abbrev pub shortBin : ℕ
 shortBin = 18
+
+-- a limit's number of ticks that is too large, or no stretch of ticks that is longer
+abbrev pub stretch : ℕ
+stretch = 21
+
+-- a production to be limited that is not a single letter
+abbrev pub notSingle : ℕ
+notSingle = 22

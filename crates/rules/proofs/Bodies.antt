@@ -8,7 +8,7 @@ use borrow.Author.Tests.{ne-eqb, eqb-true}
 use lib.ListN.{length, set, length-set}
 use Rattle.lexer.specs.Tokens as token
 use Rattle.lexer.specs.Tokens.{Token, Placed, tokenAt, ruleWords}
-use Rattle.meaning.specs.Expression.{Literal, Exp}
+use Rattle.meaning.specs.Expression.{Literal, Exp, asProduction}
 use Rattle.meaning.specs.Reading.{statement, defineName, newLevel, Open, closing, inDefine, literal, literalMore, operand, operandMore, Step, isSign, is, choose, notHere, behindLiteral, behindOperand, step}
 use Rattle.meaning.specs.Names.{Names, aDefine, aProduction, newDefine, newProduction, declare}
 use Rattle.rules.specs.declared.literals.Condition.{Condition}
@@ -19,7 +19,7 @@ use Rattle.words.specs.Words.{quad, part0, part1, part2, part3}
 use Rattle.rules.specs.Cells.{at, flag, Links, testsOn, Denotes, Means, HeldIs}
 use Rattle.rules.specs.Reads.{readFrom, Unless, fine, faulted, placed}
 use Rattle.rules.specs.Conditions.{Extends, ConditionIs, Given, Added, Refuses, Adds, AllAdded}
-use Rattle.rules.specs.Parts.{PartIs}
+use Rattle.rules.specs.Parts.{PartIs, ProductionMade}
 use Rattle.rules.specs.Tasks.{Gains, Fails}
 use Rattle.rules.specs.Expressions.{Named, Closes, Outer, behindWhole, Whole}
 use Rattle.rules.specs.Defined.{Begins, Defines, HeadAt, CellWritten}
@@ -31,7 +31,7 @@ use Rattle.rules.proofs.Put.{put-extends, put-at, extends-then}
 use Rattle.rules.proofs.Kept.{cells-kept, tests-kept, held-kept}
 use Rattle.rules.proofs.TaskLaws.{room-after, spent-then}
 use Rattle.rules.proofs.Defining.{withMeaning}
-use Rattle.rules.proofs.PartLaws.{part-kept, within, put-three, first-word, second-word, third-word}
+use Rattle.rules.proofs.PartLaws.{part-kept, within, flag-small, put-three, first-word, second-word, third-word}
 
 -- ---- the literals of a define
 
@@ -183,10 +183,6 @@ module _ (P : List ℕ) (c t u v w : ℕ) (h : c + 4 ≤ length P) where
   word-3 : at four (c + 3) ≡ w
   word-3 = put-at three (c + 3) w long
 
-flag-small : (b : Bool) → flag b ≤ 1
-flag-small true = omega arith
-flag-small false = omega arith
-
 module _ (P : List ℕ) (c last place size : ℕ) (small : length P ≤ 65535) (l : last < 65536) (p : place < 65536) (s : size < 65536) where
   -- the first word
   headed : (Q : List ℕ) (kind : ℕ) → kind < 65536 → at Q c ≡ quad kind last place size → (part0 (at Q c) ≡ kind) × HeadAt Q c last place size
@@ -205,13 +201,15 @@ module _ (P : List ℕ) (c last place size : ℕ) (small : length P ≤ 65535) (
 
     -- its four words
     define-cell : (Q : List ℕ) → Extends P c Q (c + 4) → at Q c ≡ quad 2 last place size → at Q (c + 1) ≡ quad n (q .tests) (q .link) (q .held) → at Q (c + 2) ≡ q .look → at Q (c + 3) ≡ q .want
-        → CellWritten P c 4 last place size (List Literal) (ConditionIs P c q) aDefine Q
+        → CellWritten P c c 4 last place size (List Literal) (ConditionIs P c q) aDefine Q
     unfolding Means
     define-cell Q x first body looks wants =
         let (kind, head) = headed Q 2 (omega arith) first in
         let (a, b, d, g) = define-small in
         let link = ap part2 body ∙ quad-2 n (q .tests) (q .link) (q .held) d in
         record {
+          since = omega arith;
+          few = omega arith;
           extends = x;
           head = head;
           means = λ ls k.
@@ -230,7 +228,7 @@ module _ (P : List ℕ) (c last place size : ℕ) (small : length P ≤ 65535) (
               };
         }
 
-    pub define-put : CellWritten P c 4 last place size (List Literal) (ConditionIs P c q) aDefine
+    pub define-put : CellWritten P c c 4 last place size (List Literal) (ConditionIs P c q) aDefine
         (set (set (set (set P c (quad 2 last place size)) (c + 1) (quad n (q .tests) (q .link) (q .held))) (c + 2) (q .look)) (c + 3) (q .want))
     define-put = define-cell _ (put-four P c _ _ _ _ room) (word-0 P c _ _ _ _ room) (word-1 P c _ _ _ _ room) (word-2 P c _ _ _ _ room) (word-3 P c _ _ _ _ room)
 
@@ -244,12 +242,14 @@ module _ (P : List ℕ) (c last place size : ℕ) (small : length P ≤ 65535) (
 
     -- its three words
     production-cell : (Q : List ℕ) → Extends P c Q (c + 3) → at Q c ≡ quad 3 last place size → at Q (c + 1) ≡ quad (y .node) 0 0 0
-        → at Q (c + 2) ≡ quad (y .letters) n (y .impossible) (y .hollow) → CellWritten P c 3 last place size Exp (PartIs P c y) aProduction Q
+        → at Q (c + 2) ≡ quad (y .letters) n (y .impossible) (y .hollow) → CellWritten P c c 3 last place size Exp (PartIs P c y) aProduction Q
     unfolding Means
     production-cell Q x first body sums =
         let (kind, head) = headed Q 3 (omega arith) first in
         let (a, b, d, f, g) = production-small in
         record {
+          since = omega arith;
+          few = omega arith;
           extends = x;
           head = head;
           means = λ e k.
@@ -265,9 +265,20 @@ module _ (P : List ℕ) (c last place size : ℕ) (small : length P ≤ 65535) (
               };
         }
 
-    pub production-put : CellWritten P c 3 last place size Exp (PartIs P c y) aProduction
+    pub production-put : CellWritten P c c 3 last place size Exp (PartIs P c y) aProduction
         (set (set (set P c (quad 3 last place size)) (c + 1) (quad (y .node) 0 0 0)) (c + 2) (quad (y .letters) n (y .impossible) (y .hollow)))
     production-put = production-cell _ (put-three P c _ _ _ room) (first-word P c _ _ _ room) (second-word P c _ _ _ room) (third-word P c _ _ _ room)
+
+-- behind the node of a single letter
+pub numbered-put : (P : List ℕ) (c h k last place size : ℕ) (p r : Part) (Q R : List ℕ) → ProductionMade P c k p Q h r
+    → CellWritten Q h h 3 last place size Exp (PartIs Q h r) aProduction R → CellWritten P c h 3 last place size Exp (PartIs P c p) (λ e. aProduction (asProduction k e)) R
+numbered-put P c h k last place size p r Q R a b = record {
+  since = a .extends .more;
+  few = omega (arith, a .few);
+  extends = extends-then (a .extends) (b .extends);
+  head = b .head;
+  means = λ e y. b .means (asProduction k e) (a .part e y);
+}
 
 -- ---- where they begin
 
@@ -282,10 +293,10 @@ production-begins text pos (s, place, after, e) ns = rw e
 
 -- ---- and what they declare
 
-pub define-declares : (s : List ℕ) (ls : List Literal) (ns : Names) → declare (newDefine s ls) ns ≡ withMeaning s (aDefine ls) ns
+pub define-declares : (k : ℕ) (s : List ℕ) (ls : List Literal) (ns : Names) → k ≡ length (ns .declared) → declare (newDefine s ls) ns ≡ withMeaning s (aDefine ls) ns
 unfolding declare
-define-declares s ls ns = refl
+define-declares k s ls ns z = refl
 
-pub production-declares : (s : List ℕ) (e : Exp) (ns : Names) → declare (newProduction s e) ns ≡ withMeaning s (aProduction e) ns
+pub production-declares : (k : ℕ) (s : List ℕ) (e : Exp) (ns : Names) → k ≡ length (ns .declared) → declare (newProduction s e) ns ≡ withMeaning s (aProduction (asProduction k e)) ns
 unfolding declare
-production-declares s e ns = refl
+production-declares k s e ns z = rw z

@@ -9,7 +9,7 @@ use borrow.Author.Tests.{le-leb, lt-leb, le-ltb, lt-ltb, leb-false}
 use lib.Dec.{leb, ltb}
 use lib.Pow.{pow-pos}
 use lib.ListN.{length, take, drop, set, length-set, length-append}
-use lib.Seq.{take-suc-set}
+use lib.Seq.{take-suc-set, drop-set-lt}
 use Rattle.lexer.specs.Bytes.{Entry}
 use Rattle.lexer.specs.Tokens.{Placed}
 use Rattle.meaning.specs.Reading.{Expect, statement, sign, closing, inputName, inputMore, inputHigh, storeName, storeMore, storeHigh, storeFirst, go, newName, step}
@@ -82,7 +82,7 @@ module _ {text P S : List ℕ} {pos c : ℕ} {scope : Scope} (r : Ready text P S
       (fits, omega (arith, q .small), omega (arith, q .small, k .low), omega (arith, r .short, m .some, m .inside), omega (arith, r .short, m .inside))
 
 -- a refusal, with words and values of the same length
-refuse : (text : List ℕ) (state : Expect) (P S : List ℕ) (pos c : ℕ) (scope : Scope) (r : Declared) → (r .fault ≡ 0 → ⊥)
+pub refuse : (text : List ℕ) (state : Expect) (P S : List ℕ) (pos c : ℕ) (scope : Scope) (r : Declared) → (r .fault ≡ 0 → ⊥)
     → Refuses text state P S pos c scope (r .fault) (r .at) → Declares text state P S pos c scope r P S
 refuse text state P S pos c scope r n f = record { words = refl; values = refl; outcome = faulted n f }
 
@@ -93,7 +93,7 @@ answered f pos free scope = record { fault = f; at = pos; free = free; scope = s
 
 -- the scope with a field more
 abbrev pub withWires : Scope → (c width : ℕ) → Scope
-withWires scope c width = record { last = c; count = scope .count + 1; wires = scope .wires + width; stores = scope .stores }
+withWires scope c width = record { last = c; count = scope .count + 1; wires = scope .wires + width; stores = scope .stores; limits = scope .limits }
 
 wires-known : (text P S : List ℕ) (c place size width : ℕ) (Q : List ℕ) (scope : Scope) (ns : Names) → 1 ≤ c → place + size ≤ length text → 1 ≤ width → width ≤ 64 - scope .wires → scope .count < 128
     → NameWritten P c 0 (scope .last) place size (scope .wires) width Q → Known text P S c scope ns
@@ -110,8 +110,15 @@ wires-known text P S c place size width Q scope ns some inside one most few w k 
       stores = k .stores;
       room = k .room;
       values = k .values;
+      limits = k .limits;
+      few-limits = k .few-limits;
+      bounds = k .bounds;
       low = omega arith;
     }
+
+pub or-right : (a b : Bool) → b ≡ true → a || b ≡ true
+or-right true b e = refl
+or-right false b e = e
 
 -- behind a wire's name
 wide-input : (ns : Names) (s : List ℕ) (wires : ℕ) → wires ≡ ns .wires → wires < 64
@@ -125,13 +132,9 @@ wide-input ns s wires e l =
       begins = λ t. refl;
       numeric = λ t. refl;
       ends = λ w t. refl;
-      large = λ h m. either (ltb 63 h) (ltb 64 (ns .wires + suc h)) (lt-ltb 64 (ns .wires + suc h) (omega arith));
+      large = λ h m. or-right (ltb 63 h) (ltb 64 (ns .wires + suc h)) (lt-ltb 64 (ns .wires + suc h) (omega arith));
       small = λ h m. ap (λ (b : Bool). b || ltb 64 (ns .wires + suc h)) (le-ltb 63 h (omega arith)) ∙ le-ltb 64 (ns .wires + suc h) (omega arith);
     }
-  where
-    either : (a b : Bool) → b ≡ true → a || b ≡ true
-    either true b e = refl
-    either false b e = e
 
 module _ (text P : List ℕ) (pos : ℕ) (scope : Scope) (f place after : ℕ) (name : NameRead text P scope pos (leb 64 (scope .wires)) false f place after) where
   pub wires-left : f ≡ 0 → scope .wires < 64
@@ -182,10 +185,10 @@ module _ (text P : List ℕ) (pos : ℕ) (scope : Scope) (f place after : ℕ) (
 -- ---- stores
 
 abbrev pub withStore : Scope → (c : ℕ) → Scope
-withStore scope c = record { last = c; count = scope .count + 1; wires = scope .wires; stores = scope .stores + 1 }
+withStore scope c = record { last = c; count = scope .count + 1; wires = scope .wires; stores = scope .stores + 1; limits = scope .limits }
 
 stores-known : (text P S : List ℕ) (c place size width v : ℕ) (Q : List ℕ) (scope : Scope) (ns : Names) → 1 ≤ c → place + size ≤ length text → 1 ≤ width → width ≤ 64 → scope .count < 128
-    → scope .stores < 16 → length S ≡ 16 → NameWritten P c 1 (scope .last) place size (scope .stores) width Q → Known text P S c scope ns
+    → scope .stores < 16 → length S ≡ 24 → NameWritten P c 1 (scope .last) place size (scope .stores) width Q → Known text P S c scope ns
     → Known text Q (set S (scope .stores) v) (c + 2) (withStore scope c) (declare (newStore (take size (drop place text)) width v) ns)
 unfolding declare Means
 stores-known text P S c place size width v Q scope ns some inside one most few free all w k =
@@ -199,6 +202,9 @@ stores-known text P S c place size width v Q scope ns some inside one most few f
       stores = omega (arith, k .stores, length-append (ns .initial) (v ∷ []));
       room = omega arith;
       values = rw (add-one (scope .stores)) (take-suc-set S (scope .stores) v (omega arith) ∙ ap (λ (l : List ℕ). l ++ (v ∷ [])) (k .values));
+      limits = k .limits;
+      few-limits = k .few-limits;
+      bounds = ap (take (scope .limits)) (drop-set-lt 16 S (scope .stores) v free) ∙ k .bounds;
       low = omega arith;
     }
 
@@ -267,7 +273,7 @@ module _ (text P : List ℕ) (pos : ℕ) (scope : Scope) (f place after : ℕ) (
           unfolding Behind
           store-no-end n = refuse text storeName P S pos c scope _ n (λ ns k. behind-first ns k ∙ ill end n _ _)
 
-          pub store-read : i ≡ 0 → Room text P pos c → length S ≡ 16 → (Q : List ℕ) → NameWritten P c 1 (scope .last) place (after - place) (scope .stores) width Q
+          pub store-read : i ≡ 0 → Room text P pos c → length S ≡ 24 → (Q : List ℕ) → NameWritten P c 1 (scope .last) place (after - place) (scope .stores) width Q
               → Declares text storeName P S pos c scope (answered 0 d (c + 2) (withStore scope c)) Q (set S (scope .stores) v)
           unfolding Behind
           store-read q room all Q w =

@@ -49,10 +49,10 @@ module _ (text P : List ℕ) (scope : Scope) (pos f place after : ℕ) (name : N
 
 -- the scope with a name more, and the names
 abbrev pub withCell : Scope → (h : ℕ) → Scope
-withCell scope h = record { last = h; count = scope .count + 1; wires = scope .wires; stores = scope .stores }
+withCell scope h = record { last = h; count = scope .count + 1; wires = scope .wires; stores = scope .stores; limits = scope .limits }
 
 abbrev pub withMeaning : List ℕ → Meaning → Names → Names
-withMeaning s m ns = record { declared = withName s m (ns .declared); wires = ns .wires; initial = ns .initial }
+withMeaning s m ns = record { declared = withName s m (ns .declared); wires = ns .wires; initial = ns .initial; limits = ns .limits }
 
 -- ---- what the functions are given
 
@@ -126,10 +126,11 @@ module _ (text P : List ℕ) (scope : Scope) (pos k f a place size : ℕ) (begun
       unfolding Behind
       no-end m = record { words = body .long; values = refl; outcome = faulted m (λ ns w. let (t, u, on) = behind-body ns w in on ∙ ill end m _ _) }
 
-      pub definition-read : i ≡ 0 → 1 ≤ c → (m : ℕ) → 1 ≤ m → m ≤ 4 → (mean : T → Meaning) → ((s : List ℕ) (t : T) (ns : Names) → declare (new s t) ns ≡ withMeaning s (mean t) ns)
-          → (R : List ℕ) → CellWritten Q d m (scope .last) place size T After mean R → Declares text state P S pos c scope (answered 0 e (d + m) (withCell scope d)) R S
+      pub definition-read : i ≡ 0 → 1 ≤ c → (h m : ℕ) → 1 ≤ m → (mean : T → Meaning)
+          → ((s : List ℕ) (t : T) (ns : Names) → scope .count ≡ length (ns .declared) → declare (new s t) ns ≡ withMeaning s (mean t) ns)
+          → (R : List ℕ) → CellWritten Q d h m (scope .last) place size T After mean R → Declares text state P S pos c scope (answered 0 e (h + m) (withCell scope h)) R S
       unfolding Behind
-      definition-read x some m one most mean is R cell =
+      definition-read x some h m one mean is R cell =
           let b = begun-here in
           let gains = well (body .outcome) y in
           let s = gains .spent in
@@ -140,13 +141,13 @@ module _ (text P : List ℕ) (scope : Scope) (pos k f a place size : ℕ) (begun
             values = refl;
             outcome = fine refl (record {
               extends = extends;
-              spent = record { since = omega (arith, b .low, b .past, s .since); inside = o .1; few = omega (arith, s .few, b .low, b .some, b .past) };
+              spent = record { since = omega (arith, b .low, b .past, s .since); inside = o .1; few = omega (arith, s .few, b .low, b .some, b .past, cell .few) };
               further = omega (arith, b .low, b .past, s .since);
               reads = λ ns w.
                   let (t, u, to) = behind-body ns w in (
                     _,
-                    subst (Known text R S (d + m) (withCell scope d)) (sym (is bytes t ns)) (record {
-                      cells = cell-added text P c R d (d + m) (scope .last) place size (ns .declared) (mean t) (omega (arith, gains .extends .more)) (omega (arith, w .low, gains .extends .more)) (omega arith)
+                    subst (Known text R S (h + m) (withCell scope h)) (sym (is bytes t ns (w .count))) (record {
+                      cells = cell-added text P c R h (h + m) (scope .last) place size (ns .declared) (mean t) (omega (arith, gains .extends .more, cell .since)) (omega (arith, w .low, gains .extends .more, cell .since)) (omega arith)
                           (omega (arith, b .past, b .inside)) (w .cells) extends (cell .head) (cell .means t u);
                       count = omega (arith, w .count);
                       few = omega (arith, b .few);
@@ -155,6 +156,9 @@ module _ (text P : List ℕ) (scope : Scope) (pos k f a place size : ℕ) (begun
                       stores = w .stores;
                       room = w .room;
                       values = w .values;
+                      limits = w .limits;
+                      few-limits = w .few-limits;
+                      bounds = w .bounds;
                       low = omega arith;
                     }),
                     to ∙ on _ _,

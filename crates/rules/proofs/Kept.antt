@@ -7,10 +7,10 @@ use native.Mathlib.Omega.{arith}
 use lib.Dec.{eqb}
 use lib.ListN.{length, take, drop}
 use Rattle.lexer.specs.Bytes.{Entry}
-use Rattle.meaning.specs.Expression.{Literal, Exp, letter, seq, alt, star, pipe}
+use Rattle.meaning.specs.Expression.{Literal, Write, Exp, letter, seq, alt, star, pipe}
 use Rattle.meaning.specs.Names.{Meaning, anInput, aStore, aDefine, aProduction}
 use Rattle.words.specs.Words.{part0, part1, part2, part3}
-use Rattle.rules.specs.Cells.{at, Link, LinkAt, Links, HeldIs, testsOn, writesOn, Node, Denotes, Means, Cells}
+use Rattle.rules.specs.Cells.{at, Link, LinkAt, Links, HeldIs, testsOn, writesOn, Node, LetterNode, CameNode, Denotes, Means, Cells}
 use Rattle.rules.specs.Conditions.{Extends, TestsAre}
 
 module _ (P : List ℕ) (c : ℕ) (Q : List ℕ) (d : ℕ) (x : Extends P c Q d) where
@@ -49,22 +49,37 @@ module _ (P : List ℕ) (c : ℕ) (Q : List ℕ) (d : ℕ) (x : Extends P c Q d)
   unfolding Node
   under k kind (p, l, e) = l
 
+  letter-kept : (k : ℕ) (ls : List Literal) (ws : List Write) → LetterNode P c k ls ws → LetterNode Q d k ls ws
+  unfolding LetterNode
+  letter-kept k ls ws (n, l, a, b, t, w, h) =
+      let m = under k 0 n in (
+        node-kept k 0 n,
+        omega (arith, x .more),
+        x .kept (k + 1) (omega arith) ∙ a,
+        x .kept (k + 2) l ∙ b,
+        subst (λ z. Links Q d z (testsOn [] ls)) (sym (ap part1 (x .kept k m))) (links-kept _ _ t),
+        subst (λ z. Links Q d z (writesOn [] ws)) (sym (ap part2 (x .kept k m))) (links-kept _ _ w),
+        subst (λ z. HeldIs Q d z ls) (sym (ap part3 (x .kept k m))) (held-kept _ _ h),
+      )
+
+  came-kept : (k : ℕ) (ps : List ℕ) (ls : List Literal) (ws : List Write) → CameNode P c k ps ls ws → CameNode Q d k ps ls ws
+  unfolding CameNode
+  came-kept k [] ls ws n = letter-kept k ls ws n
+  came-kept k (p ∷ ps) ls ws (n, i, e, r) =
+      let m = under k 5 n in (
+        node-kept k 5 n,
+        moved part1 (λ z. z < k) k m i,
+        same part2 k _ m e,
+        subst (λ z. CameNode Q d z ps ls ws) (sym (ap part1 (x .kept k m))) (came-kept _ ps ls ws r),
+      )
+
   -- an operand of a node
   operand : (f : ℕ → ℕ) (k : ℕ) (e : Exp) → k < c → Denotes Q d (f (at P k)) e → Denotes Q d (f (at Q k)) e
   operand f k e l r = subst (λ z. Denotes Q d z e) (sym (ap f (x .kept k l))) r
 
   pub denotes-kept : (k : ℕ) (e : Exp) → Denotes P c k e → Denotes Q d k e
   unfolding Denotes
-  denotes-kept k (letter y) (n, l, a, b, t, w, h) =
-      let m = under k 0 n in (
-        node-kept k 0 n,
-        omega (arith, x .more),
-        x .kept (k + 1) (omega arith) ∙ a,
-        x .kept (k + 2) l ∙ b,
-        subst (λ z. Links Q d z (testsOn [] (y .literals))) (sym (ap part1 (x .kept k m))) (links-kept _ _ t),
-        subst (λ z. Links Q d z (writesOn [] (y .writes))) (sym (ap part2 (x .kept k m))) (links-kept _ _ w),
-        subst (λ z. HeldIs Q d z (y .literals)) (sym (ap part3 (x .kept k m))) (held-kept _ _ h),
-      )
+  denotes-kept k (letter y) n = came-kept k (y .through) (y .literals) (y .writes) n
   denotes-kept k (seq e f) (n, i, j, p, q) =
       let m = under k 1 n in
       (node-kept k 1 n, moved part1 (λ z. z < k) k m i, moved part2 (λ z. z < k) k m j, operand part1 k e m (denotes-kept _ e p), operand part2 k f m (denotes-kept _ f q))

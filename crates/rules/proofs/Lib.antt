@@ -67,7 +67,17 @@ pub mod Expressing
 pub mod Starting
 -- the names of the monitor statement, and the end behind it
 pub mod MonitorSteps
+-- a limit more: the production that it names, its numbers, and what is declared then
+pub mod Limiting
 -- statements one after the other from the beginning of a text
 pub mod StatementSteps
+-- which limits count each letter, by the walk over the monitors
+pub mod Counting
+-- the numbers of the productions that limits count are small
+pub mod LimitNumbers
+-- the same as a watch has it, and the limits' windows
+pub mod LimitTables
 -- a text is opened as `openText` says, answer and watch
 pub mod TextOpened
+-- what an opened watch has for its limits
+pub mod Limited

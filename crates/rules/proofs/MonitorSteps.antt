@@ -24,17 +24,13 @@ use Rattle.rules.proofs.Listing.{monitors-none, monitors-more}
 
 -- ---- one name
 
-module _ (text P : List ℕ) (h pos : ℕ) (t : Seen) (sees : Sees text pos t) (f cell : ℕ) (pick : Picks text P h t 3 f cell) (M : List ℕ) (n : ℕ) where
-  only-productions : (p : Exp → Step) → Only 3 (seen text t) (noPair (seen text t)) (noPair (seen text t)) (noLiterals (seen text t)) p
+-- of a production
+module _ (text P : List ℕ) (h pos : ℕ) (t : Seen) (sees : Sees text pos t) (f cell : ℕ) (pick : Picks text P h t 3 f cell) where
+  pub only-productions : (p : Exp → Step) → Only 3 (seen text t) (noPair (seen text t)) (noPair (seen text t)) (noLiterals (seen text t)) p
   only-productions p = record { inputs = λ z. refl; stores = λ z. refl; defines = λ z. refl; productions = λ z. absurd (z refl) }
 
-  pub monitor-unknown : (f ≡ 0 → ⊥) → OneListed text P h pos M n f (t .place) M n
-  unfolding OneListed Picks step
-  monitor-unknown z = faulted z (λ c ns k ms a. on-step text pos t sees ns (monitorName ms) _ (ill (pick c ns k) z _ _ _ _ (only-productions _)))
-
   module _ (z : f ≡ 0) where
-    -- the production
-    the-production : (c : ℕ) (ns : Names) → Cells text P c h (ns .declared)
+    pub the-production : (c : ℕ) (ns : Names) → Cells text P c h (ns .declared)
         → (e : Exp) × ProductionAt P c cell e × (t .kind ≡ 18) × ((p r : ℕ → ℕ → Step) (d : List Literal → Step) (o : Exp → Step) → known ns (seen text t) p r d o ≡ o e)
     unfolding Picks byKind
     the-production c ns k =
@@ -42,24 +38,36 @@ module _ (text P : List ℕ) (h pos : ℕ) (t : Seen) (sees : Sees text pos t) (
         let (e, q, st) = production-of P c cell (p .meaning) (p .means) (p .of) in
         (e, st, p .name, λ i s d o. known-name text pos t sees (p .name) ns (some (aProduction e)) (p .found ∙ ap some q) i s d o)
 
+    -- where some names are declared
+    pub a-production : Declared text P h → (c : ℕ) × (e : Exp) × (c ≤ length P) × ProductionAt P c cell e × (t .kind ≡ 18)
+    a-production (c, es, l, k) = let (e, st, q, on) = the-production c (record { declared = es; wires = 0; initial = []; limits = [] }) k in (c, e, l, st, q)
+
+-- of a monitor
+module _ (text P : List ℕ) (h pos : ℕ) (t : Seen) (sees : Sees text pos t) (f cell : ℕ) (pick : Picks text P h t 3 f cell) (M : List ℕ) (n : ℕ) where
+  pub monitor-unknown : (f ≡ 0 → ⊥) → OneListed text P h pos M n f (t .place) M n
+  unfolding OneListed Picks step
+  monitor-unknown z =
+      faulted z (λ c ns k ms a. on-step text pos t sees ns (monitorName ms) _ (ill (pick c ns k) z _ _ _ _ (only-productions text P h pos t sees f cell pick _)))
+
+  module _ (z : f ≡ 0) where
     pub monitor-inside : Declared text P h → cell < length P
-    monitor-inside (c, es, l, k) = let (e, st, q, on) = the-production c (record { declared = es; wires = 0; initial = [] }) k in omega (arith, st .used)
+    monitor-inside d = let (c, e, l, st, q) = a-production text P h pos t sees f cell pick z d in omega (arith, st .used)
 
     pub monitor-crowded : 32 ≤ n → OneListed text P h pos M n 7 (t .place) M n
     unfolding OneListed step seen
     monitor-crowded l =
         faulted (λ y. omega arith) (λ c ns k ms a.
-        let (e, st, q, on) = the-production c ns k in
+        let (e, st, q, on) = the-production text P h pos t sees f cell pick z c ns k in
         on-step text pos t sees ns (monitorName ms) _ (on _ _ _ _ ∙ wrong _ _ _ _ (le-leb 32 (length ms) (omega (arith, a .number)))))
 
     pub monitor-listed : Declared text P h → n < 32 → n < length M → OneListed text P h pos M n 0 (t .after) (set M n cell) (n + 1)
     unfolding OneListed step
-    monitor-listed (b, es, i, d) l m =
-        let (x, xt, q, xn) = the-production b (record { declared = es; wires = 0; initial = [] }) d in
+    monitor-listed d l m =
+        let (b, x, i, xt, q) = a-production text P h pos t sees f cell pick z d in
         fine refl (record {
           past = past text pos t sees (omega arith);
           reads = λ c ns k ms a.
-              let (e, st, q, on) = the-production c ns k in (
+              let (e, st, q, on) = the-production text P h pos t sees f cell pick z c ns k in (
                 ms ++ (e ∷ []),
                 monitors-more P c M e cell n m st ms a l,
                 on-step text pos t sees ns (monitorName ms) _ (on _ _ _ _ ∙ right _ _ _ _ (lt-leb 32 (length ms) (omega (arith, a .number)))),
@@ -119,9 +127,9 @@ module _ (text P : List ℕ) (h pos : ℕ) where
 -- ---- the end
 
 -- a token that is the end, and one that is not
-end-kind : (ns : Names) (ms : List Exp) (u : Placed) (kind : ℕ) (s : List ℕ) (v : ℕ) → (kind ≡ 25 → ⊥) → atEnd ns ms u (tokenOf kind s v) ≡ notHere u
+end-kind : (ns : Names) (ms : List Exp) (u : Placed) (kind : ℕ) (s : List ℕ) (v : ℕ) → (kind ≡ 28 → ⊥) → atEnd ns ms u (tokenOf kind s v) ≡ notHere u
 end-kind ns ms u kind s v n =
-    by-kind (λ (t : Token) (m : ℕ). (m ≡ 25 → ⊥) → atEnd ns ms u t ≡ notHere u) kind s v (λ l o. refl) (λ o. refl) (λ o. refl) (λ w l g o. refl) (λ o. absurd (o refl)) (λ l o. refl) n
+    by-kind (λ (t : Token) (m : ℕ). (m ≡ 28 → ⊥) → atEnd ns ms u t ≡ notHere u) kind s v (λ l o. refl) (λ o. refl) (λ o. refl) (λ w l g o. refl) (λ o. absurd (o refl)) (λ l o. refl) n
 
 module _ (text P : List ℕ) (h pos f at : ℕ) (M : List ℕ) (n : ℕ) (all : AllListed text P h pos f at M n) where
   pub monitors-refused : (f ≡ 0 → ⊥) → Monitored text P h pos f at M n
@@ -129,14 +137,14 @@ module _ (text P : List ℕ) (h pos f at : ℕ) (M : List ℕ) (n : ℕ) (all : 
   monitors-refused z = faulted z (ill all z)
 
   module _ (z : f ≡ 0) (t : Seen) (sees : Sees text at t) where
-    pub monitors-unended : (t .kind ≡ 25 → ⊥) → Monitored text P h pos (t .fault) (t .place) M n
+    pub monitors-unended : (t .kind ≡ 28 → ⊥) → Monitored text P h pos (t .fault) (t .place) M n
     unfolding AllListed Monitored Listing NotListed step seen
     monitors-unended q =
         faulted (faults text at t sees) (λ c ns l k.
         let (ms, w, on) = well all z c ns l k in
         on ∙ on-step text at t sees ns (textEnd ms) _ (end-kind ns ms (seen text t) (t .kind) _ (t .value) q ∙ not-here text at t sees))
 
-    pub monitors-read : t .kind ≡ 25 → Monitored text P h pos f at M n
+    pub monitors-read : t .kind ≡ 28 → Monitored text P h pos f at M n
     unfolding AllListed Monitored Listing step seen tokenOf
     monitors-read q =
         fine z (λ c ns l k.

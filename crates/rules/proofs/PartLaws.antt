@@ -1,7 +1,7 @@
 -- The parts of an expression among the words: they stay as they are, and each way of making one. Assumes nothing.
 use mathlib.Core.Path.{_≡_, refl, sym, _∙_, ap, subst}
 use mathlib.Core.Bool.{Bool, true, false, cond}
-use mathlib.Core.List.{List, []}
+use mathlib.Core.List.{List, [], _∷_}
 use mathlib.Core.Logic.{⊎-elim}
 use mathlib.Core.Option.{Option, none, some}
 use Prim.Native.Nat.{ℕ, _+_, _<_, _≤_}
@@ -9,19 +9,19 @@ use native.Mathlib.Omega.{arith}
 use borrow.Author.Tests.{eq-eqb, ne-eqb}
 use lib.Dec.{eqb}
 use lib.ListN.{length, set, length-set}
-use Rattle.meaning.specs.Expression.{Letter, Exp, letter, seq, alt, star, pipe, letters, size, aLetter}
+use Rattle.meaning.specs.Expression.{Literal, Write, Exp, letter, seq, alt, star, pipe, letters, size, aLetter, asProduction}
 use Rattle.meaning.specs.Shape.{nullable}
 use Rattle.meaning.specs.ShapeTests.{AllSized, SizedLetters}
 use Rattle.masks.specs.Masks.{look, want}
 use Rattle.meaning.specs.Summary.{impossibleAt, hollowAt}
 use Rattle.meaning.specs.Reading.{join}
-use Rattle.meaning.proofs.ListLaws.{append-∈, one-∈}
+use Rattle.meaning.proofs.ListLaws.{clash, here, append-∈, one-∈}
 use Rattle.rules.specs.declared.literals.Condition.{Condition}
 use Rattle.rules.specs.declared.parts.Part.{Part}
 use Rattle.words.specs.Words.{quad, part0, part1, part2, part3}
-use Rattle.rules.specs.Cells.{at, Links, testsOn, writesOn, Node, Denotes, coded, flag, ProductionAt, HeldIs}
+use Rattle.rules.specs.Cells.{at, Links, testsOn, writesOn, Node, LetterNode, CameNode, letterKind, Denotes, coded, flag, ProductionAt, HeldIs}
 use Rattle.rules.specs.Conditions.{Extends}
-use Rattle.rules.specs.Parts.{present, Summed, PartIs, OptionIs, Within, opOf, Operator, SumOf, JoinMade, StarMade, LetterMade}
+use Rattle.rules.specs.Parts.{present, Summed, PartIs, OptionIs, Within, opOf, Operator, SumOf, JoinMade, StarMade, ProductionMade, LetterMade}
 use Rattle.words.proofs.Quads.{quad-0, quad-1, quad-2, quad-3}
 use Rattle.rules.proofs.Put.{extends-refl, extends-then, put-extends, put-at, put-both, put-first, put-second}
 use Rattle.rules.proofs.Kept.{links-kept, denotes-kept, held-kept}
@@ -45,13 +45,34 @@ unfolding OptionIs
 option-some P c p n (none, z) = absurd (n z)
 option-some P c p n (some e, x) = (e, x)
 
-node-of : (P : List ℕ) (c k : ℕ) (e : Exp) → Denotes P c k e → (0 < k) × (k < c)
+pub came-node : (P : List ℕ) (c k : ℕ) (ps : List ℕ) (ls : List Literal) (ws : List Write) → CameNode P c k ps ls ws → (0 < k) × (k < c) × (letterKind (part0 (at P k)) ≡ true)
+unfolding CameNode LetterNode Node
+came-node P c k [] ls ws d = (d .0 .0, d .0 .1, ap letterKind (d .0 .2))
+came-node P c k (p ∷ ps) ls ws d = (d .0 .0, d .0 .1, ap letterKind (d .0 .2))
+
+pub node-of : (P : List ℕ) (c k : ℕ) (e : Exp) → Denotes P c k e → (0 < k) × (k < c)
 unfolding Denotes Node
-node-of P c k (letter l) d = (d .0 .0, d .0 .1)
+node-of P c k (letter l) d = let (n, m, x) = came-node P c k _ _ _ d in (n, m)
 node-of P c k (seq e f) d = (d .0 .0, d .0 .1)
 node-of P c k (alt e f) d = (d .0 .0, d .0 .1)
 node-of P c k (star e) d = (d .0 .0, d .0 .1)
 node-of P c k (pipe e f) d = (d .0 .0, d .0 .1)
+
+-- a letter's kind tells it from other expressions
+abbrev pub isLetter : Exp → Bool
+isLetter (letter l) = true
+isLetter (seq e f) = false
+isLetter (alt e f) = false
+isLetter (star e) = false
+isLetter (pipe e f) = false
+
+pub kind-letter : (P : List ℕ) (c k : ℕ) (e : Exp) → Denotes P c k e → letterKind (part0 (at P k)) ≡ isLetter e
+unfolding Denotes Node
+kind-letter P c k (letter l) d = let (n, m, x) = came-node P c k _ _ _ d in x
+kind-letter P c k (seq e f) d = ap letterKind (d .0 .2)
+kind-letter P c k (alt e f) d = ap letterKind (d .0 .2)
+kind-letter P c k (star e) d = ap letterKind (d .0 .2)
+kind-letter P c k (pipe e f) d = ap letterKind (d .0 .2)
 
 -- a part from its node and its summary
 part-of : (P : List ℕ) (c : ℕ) (p : Part) (e : Exp) → Denotes P c (p .node) e → Summed p e → SizedLetters e → PartIs P c p e
@@ -74,12 +95,12 @@ kind-small kind o = by-kind (λ k op. k < 65536) (omega arith) (omega arith) (om
 
 -- a word more that is a node: its kind, and what it leads to among the words before it
 module _ (P Q : List ℕ) (c d kind i j k : ℕ) (x : Extends P c Q d) (w : at Q c ≡ quad kind i j k) (more : c < d) (small : c < 65535) (few : kind < 65536)
-    (l : i < c) (m : j < c) where
+    (l : i < c) (m : j < 65536) where
   first : part1 (at Q c) ≡ i
   first = ap part1 w ∙ quad-1 kind i j k (omega arith)
 
   second : part2 (at Q c) ≡ j
-  second = ap part2 w ∙ quad-2 kind i j k (omega arith)
+  second = ap part2 w ∙ quad-2 kind i j k m
 
   node : Node Q d c kind
   unfolding Node
@@ -88,39 +109,45 @@ module _ (P Q : List ℕ) (c d kind i j k : ℕ) (x : Extends P c Q d) (w : at Q
   first-low : part1 (at Q c) < c
   first-low = rw first l
 
-  second-low : part2 (at Q c) < c
-  second-low = rw second m
-
   first-denotes : (e : Exp) → Denotes P c i e → Denotes Q d (part1 (at Q c)) e
   first-denotes e a = subst (λ k. Denotes Q d k e) (sym first) (denotes-kept P c Q d x i e a)
 
   second-denotes : (e : Exp) → Denotes P c j e → Denotes Q d (part2 (at Q c)) e
   second-denotes e a = subst (λ k. Denotes Q d k e) (sym second) (denotes-kept P c Q d x j e a)
 
-  denotes-letter : kind ≡ 0 → (y : Letter) → c + 2 < d → at Q (c + 1) ≡ look (y .literals) → at Q (c + 2) ≡ want (y .literals)
-      → Links P c i (testsOn [] (y .literals)) → Links P c j (writesOn [] (y .writes)) → HeldIs P c k (y .literals) → Denotes Q d c (letter y)
-  unfolding Denotes
-  denotes-letter z y n a b t u h = (
+  denotes-letter : kind ≡ 0 → (ls : List Literal) (ws : List Write) → c + 2 < d → at Q (c + 1) ≡ look ls → at Q (c + 2) ≡ want ls
+      → Links P c i (testsOn [] ls) → Links P c j (writesOn [] ws) → HeldIs P c k ls → Denotes Q d c (aLetter ls ws)
+  unfolding Denotes CameNode LetterNode
+  denotes-letter z ls ws n a b t u h = (
     rw z at node,
     n,
     a,
     b,
-    subst (λ k. Links Q d k (testsOn [] (y .literals))) (sym first) (links-kept P c Q d x i _ t),
-    subst (λ k. Links Q d k (writesOn [] (y .writes))) (sym second) (links-kept P c Q d x j _ u),
-    subst (λ k. HeldIs Q d k (y .literals)) (sym (ap part3 w ∙ quad-3 kind i j k (omega (arith, h .low)))) (held-kept P c Q d x k _ h),
+    subst (λ k. Links Q d k (testsOn [] ls)) (sym first) (links-kept P c Q d x i _ t),
+    subst (λ k. Links Q d k (writesOn [] ws)) (sym second) (links-kept P c Q d x j _ u),
+    subst (λ k. HeldIs Q d k ls) (sym (ap part3 w ∙ quad-3 kind i j k (omega (arith, h .low)))) (held-kept P c Q d x k _ h),
   )
 
   denotes-star : kind ≡ 3 → (e : Exp) → Denotes P c i e → Denotes Q d c (star e)
   unfolding Denotes
   denotes-star z e a = (rw z at node, first-low, first-denotes e a)
 
-  denotes-two : Operator kind → (e f : Exp) → Denotes P c i e → Denotes P c j f → Denotes Q d c (opOf kind e f)
+  -- a production that a letter came through
+  denotes-named : kind ≡ 5 → (e : Exp) → isLetter e ≡ true → Denotes P c i e → Denotes Q d c (asProduction j e)
+  unfolding Denotes CameNode asProduction
+  denotes-named z (letter l) q a = (rw z at node, first-low, second, first-denotes (letter l) a)
+  denotes-named z (seq e f) q a = clash (cc)
+  denotes-named z (alt e f) q a = clash (cc)
+  denotes-named z (star e) q a = clash (cc)
+  denotes-named z (pipe e f) q a = clash (cc)
+
+  denotes-two : j < c → Operator kind → (e f : Exp) → Denotes P c i e → Denotes P c j f → Denotes Q d c (opOf kind e f)
   unfolding Denotes
-  denotes-two o e f a b = by-kind (λ k op. Node Q d c k → Denotes Q d c (op e f)) (with-operands 1) (with-operands 2) (with-operands 4) kind o node
+  denotes-two second-low o e f a b = by-kind (λ k op. Node Q d c k → Denotes Q d c (op e f)) (with-operands 1) (with-operands 2) (with-operands 4) kind o node
     where
       with-operands : (k : ℕ) → Node Q d c k
           → Node Q d c k × (part1 (at Q c) < c) × (part2 (at Q c) < c) × Denotes Q d (part1 (at Q c)) e × Denotes Q d (part2 (at Q c)) f
-      with-operands k n = (n, first-low, second-low, first-denotes e a, second-denotes f b)
+      with-operands k n = (n, first-low, rw second second-low, first-denotes e a, second-denotes f b)
 
 -- ---- two parts with an operator between them
 
@@ -163,7 +190,7 @@ module _ (P : List ℕ) (c kind : ℕ) (left right : Part) where
           part-of _ _ r (opOf kind d e)
           (rw (s .node)
           (denotes-two P (set P c word) c (c + 1) kind (left .node) (right .node) 0 x (put-at P c word (omega (arith, present-one left n))) (omega (arith, present-one left n)) (omega (arith, present-one left n))
-          (kind-small kind k) l m k d e (a .denotes) (b .denotes)))
+          (kind-small kind k) l (omega arith) m k d e (a .denotes) (b .denotes)))
           (s .sums d e (summed a) (summed b)) (sized-two d e kind k (a .sized) (b .sized))
 
 -- ---- a part with a star behind it
@@ -233,7 +260,7 @@ letter-made P c q link room small n l m i f = record {
   part = λ ls ws k a t b.
       part-of _ _ _ (aLetter ls ws)
       (denotes-letter P (written P c word (q .look) (q .want) room) c (c + 3) 0 (q .link) link (q .held) x (first-word P c word (q .look) (q .want) room) (omega arith)
-      (omega arith) (omega arith) l m refl _ (omega arith) (second-word P c word (q .look) (q .want) room ∙ a .masks .looks)
+      (omega arith) (omega arith) l (omega arith) refl ls ws (omega arith) (second-word P c word (q .look) (q .want) room ∙ a .masks .looks)
       (third-word P c word (q .look) (q .want) room ∙ a .masks .wants) (a .tests .links t) (b .links) (a .helds))
       (record { letters = refl; null = refl; impossible = f ∙ ap (λ z. coded (cond z none (some 0))) (a .masks .agrees); hollow = refl })
       (λ y z. subst (λ k. AllSized (k .literals)) (sym (one-∈ z)) (a .masks .sized));
@@ -246,6 +273,65 @@ letter-made P c q link room small n l m i f = record {
     x = put-three P c word (q .look) (q .want) room
 
 -- ---- the expression of a production
+
+-- what is known of an expression does not depend on the productions that it came through
+module _ (k : ℕ) where
+  production-summed : (p : Part) (e : Exp) → Summed p e → Summed p (asProduction k e)
+  unfolding asProduction size nullable impossibleAt hollowAt
+  production-summed p (letter l) s = record { letters = s .letters; null = s .null; impossible = s .impossible; hollow = s .hollow }
+  production-summed p (seq e f) s = s
+  production-summed p (alt e f) s = s
+  production-summed p (star e) s = s
+  production-summed p (pipe e f) s = s
+
+  production-sized : (e : Exp) → SizedLetters e → SizedLetters (asProduction k e)
+  unfolding asProduction letters
+  production-sized (letter l) s = λ x i. subst (λ y. AllSized (y .literals)) (sym (one-∈ i)) (s l (here refl))
+  production-sized (seq e f) s = s
+  production-sized (alt e f) s = s
+  production-sized (star e) s = s
+  production-sized (pipe e f) s = s
+
+  other-production : (e : Exp) → isLetter e ≡ false → e ≡ asProduction k e
+  unfolding asProduction
+  other-production (letter l) q = clash (cc)
+  other-production (seq e f) q = refl
+  other-production (alt e f) q = refl
+  other-production (star e) q = refl
+  other-production (pipe e f) q = refl
+
+-- a part as the expression of the production with the number k
+module _ (P : List ℕ) (c k : ℕ) (p : Part) where
+  pub no-letter-made : letterKind (part0 (at P (p .node))) ≡ false → ProductionMade P c k p P c p
+  no-letter-made z =
+      record {
+        extends = extends-refl P c;
+        few = omega arith;
+        part = λ e y. subst (PartIs P c p) (other-production k e (sym (kind-letter P c (p .node) e (y .denotes)) ∙ z)) y;
+      }
+
+  pub named-made : c + 1 ≤ length P → length P ≤ 65535 → k < 65536 → p .node < c → letterKind (part0 (at P (p .node))) ≡ true
+      → ProductionMade P c k p (set P c (quad 5 (p .node) k 0)) (c + 1)
+      (record { node = c; letters = p .letters; nullable = p .nullable; impossible = p .impossible; hollow = p .hollow })
+  named-made room small low l z = record {
+    extends = x;
+    few = omega arith;
+    part = λ e y.
+        part-of _ _ _ (asProduction k e)
+        (denotes-named P (set P c word) c (c + 1) 5 (p .node) k 0 x (put-at P c word (omega arith)) (omega arith) (omega arith) (omega arith) l low refl e
+        (sym (kind-letter P c (p .node) e (y .denotes)) ∙ z) (y .denotes))
+        (production-summed k _ e (record { letters = y .letters; null = y .null; impossible = y .impossible; hollow = y .hollow })) (production-sized k e (y .sized));
+  }
+    where
+      word : ℕ
+      word = quad 5 (p .node) k 0
+
+      x : Extends P c (set P c word) (c + 1)
+      x = put-extends P c word (omega arith)
+
+pub flag-small : (b : Bool) → flag b ≤ 1
+flag-small true = omega arith
+flag-small false = omega arith
 
 pub is-flag : (b : Bool) → eqb (flag b) 1 ≡ b
 is-flag true = refl

@@ -1,5 +1,6 @@
 -- What stands at a node is laid: a letter, a star, or an operator of two operands. Assumes nothing.
 use mathlib.Core.Path.{_≡_, refl, sym, _∙_, ap, subst}
+use mathlib.Core.Bool.{Bool, true, false}
 use mathlib.Core.List.{List, [], _∷_, _++_, map}
 use Prim.Native.Nat.{ℕ, suc, _+_, _*_, _<_, _≤_}
 use native.Mathlib.Numerals.{add-one}
@@ -8,34 +9,40 @@ use lib.ListN.{length, set, length-append}
 use lib.Seq.{sets}
 use Rattle.meaning.specs.Expression.{Letter, Exp, letter, seq, alt, star, pipe, letters, size, rows}
 use Rattle.words.specs.Words.{part0, part1, part2, part3}
-use Rattle.rules.specs.Cells.{at, Link, Node, Denotes, testsOn, writesOn, heldAt}
-use Rattle.rules.specs.Laying.{rowCode, rowCodes, withRows, slotWord, slotNumber, twoSlots, LetterLists, letterLists, withLetters, LinksAt, SomeLinks, LetterAt, SomeLetter, ExpAt, SomeExp, Stored}
+use Rattle.rules.specs.Cells.{at, Link, Node, LetterNode, CameNode, letterKind, Denotes, testsOn, writesOn, heldAt}
+use Rattle.rules.specs.Laying.{rowCode, rowCodes, withRows, slotWord, slotNumber, twoSlots, LetterLists, letterLists, withLetters, LinksAt, SomeLinks, LetterAt, SomeLetter, BareAt, ExpAt, SomeExp, Stored}
+use Rattle.meaning.proofs.ListLaws.{clash}
+use Rattle.rules.proofs.PartLaws.{came-node, node-of, kind-letter}
 use Rattle.rules.proofs.Overlay.{row-before, rows-two, letters-behind, one-letter}
 
 -- ---- a letter's words
 
+-- some letter stands there, without the productions that it came through
+abbrev pub SomeBare : List ℕ → ℕ → Type 0
+SomeBare P n = (c : ℕ) × (x : Letter) × BareAt P c n x
+
 module _ (P : List ℕ) (n : ℕ) where
-  pub letter-inside : SomeLetter P n → n + 2 < length P
-  unfolding Denotes
+  pub letter-inside : SomeBare P n → n + 2 < length P
+  unfolding LetterNode
   letter-inside (c, x, s) = omega (arith, s .denotes .1, s .within)
 
-  tests-at : (c : ℕ) (x : Letter) → LetterAt P c n x → LinksAt P c (part1 (at P n)) (testsOn [] (x .literals))
-  unfolding Denotes
+  tests-at : (c : ℕ) (x : Letter) → BareAt P c n x → LinksAt P c (part1 (at P n)) (testsOn [] (x .literals))
+  unfolding LetterNode
   tests-at c x s = record { within = s .within; links = s .denotes .4 }
 
-  writes-at : (c : ℕ) (x : Letter) → LetterAt P c n x → LinksAt P c (part2 (at P n)) (writesOn [] (x .writes))
-  unfolding Denotes
+  writes-at : (c : ℕ) (x : Letter) → BareAt P c n x → LinksAt P c (part2 (at P n)) (writesOn [] (x .writes))
+  unfolding LetterNode
   writes-at c x s = record { within = s .within; links = s .denotes .5 }
 
   -- where its wires to be as before are
-  pub held-inside : (k : ℕ) → k ≡ part3 (at P n) → SomeLetter P n → k < length P
-  unfolding Denotes
+  pub held-inside : (k : ℕ) → k ≡ part3 (at P n) → SomeBare P n → k < length P
+  unfolding LetterNode
   held-inside k e (c, x, s) = omega (arith, e, s .denotes .6 .low, s .within)
 
-  pub some-tests : (i : ℕ) → i ≡ part1 (at P n) → SomeLetter P n → SomeLinks P i
+  pub some-tests : (i : ℕ) → i ≡ part1 (at P n) → SomeBare P n → SomeLinks P i
   some-tests i e (c, x, s) = rw e (c, testsOn [] (x .literals), tests-at c x s)
 
-  pub some-writes : (i : ℕ) → i ≡ part2 (at P n) → SomeLetter P n → SomeLinks P i
+  pub some-writes : (i : ℕ) → i ≡ part2 (at P n) → SomeBare P n → SomeLinks P i
   some-writes i e (c, x, s) = rw e (c, writesOn [] (x .writes), writes-at c x s)
 
   -- what is stored of links
@@ -45,17 +52,70 @@ module _ (P : List ℕ) (n : ℕ) where
 
   pub letter-put : (l : ℕ) (A : LetterLists) (C C′ D D′ : List ℕ) (i j k m : ℕ) → i ≡ part1 (at P n) → j ≡ part2 (at P n) → k ≡ part3 (at P n) → m ≡ heldAt P k
       → PutLinks i (4 * l) (A .links) C (A .numbers) D → PutLinks j (4 * l + 2) C C′ D D′
-      → (c : ℕ) → (x : Letter) → LetterAt P c n x → letterLists (set (A .look) l (at P (n + 1))) (set (A .want) l (at P (n + 2))) (set (A .held) l m) C′ D′ ≡ withLetters A l (x ∷ [])
-  unfolding Denotes
+      → (c : ℕ) → (x : Letter) → BareAt P c n x → letterLists (set (A .look) l (at P (n + 1))) (set (A .want) l (at P (n + 2))) (set (A .held) l m) C′ D′ ≡ withLetters A l (x ∷ [])
+  unfolding LetterNode
   letter-put l A C C′ D D′ i j k m e f g h t w c x s =
       let (p, q) = t c (testsOn [] (x .literals)) (rw e (tests-at c x s)) in
       let (u, v) = w c (writesOn [] (x .writes)) (rw f (writes-at c x s)) in
       one-letter A l (at P (n + 1)) (at P (n + 2)) m x C C′ D D′ (s .denotes .2) (s .denotes .3) (h ∙ ap (heldAt P) g ∙ s .denotes .6 .mask) p u q v
 
+-- ---- the productions that a letter came through
+
+-- Below node n, at node k, the same letter stands, come through fewer productions; a test of them is the same of those that are left.
+abbrev pub Below : (test : List ℕ → Bool) → (P : List ℕ) → (n k : ℕ) → Type 0
+Below test P n k = (c : ℕ) → (x : Letter) → LetterAt P c n x → (ps : List ℕ) × CameNode P c k ps (x .literals) (x .writes) × (test (x .through) ≡ test ps)
+
+module _ (test : List ℕ → Bool) (P : List ℕ) (n : ℕ) where
+  pub below-start : Below test P n n
+  unfolding Denotes
+  below-start c x s = (x .through, s .denotes, refl)
+
+  module _ (k : ℕ) (b : Below test P n k) where
+    pub below-inside : SomeLetter P n → k < length P
+    below-inside (c, x, s) = let (ps, d, e) = b c x s in omega (arith, came-node P c k ps _ _ d .1, s .within)
+
+    -- the letter's own node
+    module _ (z : part0 (at P k) ≡ 5 → ⊥) (c : ℕ) (x : Letter) (s : LetterAt P c n x) where
+      its-own : (ps : List ℕ) × CameNode P c k ps (x .literals) (x .writes) × (test (x .through) ≡ test ps)
+          → LetterNode P c k (x .literals) (x .writes) × (test (x .through) ≡ test [])
+      unfolding CameNode Node
+      its-own ([], d, e) = (d, e)
+      its-own (p ∷ ps, d, e) = absurd (z (d .0 .2))
+
+      pub below-end : BareAt P c k x
+      below-end = record { within = s .within; denotes = its-own (b c x s) .0 }
+
+      pub none-left : test (x .through) ≡ test []
+      none-left = its-own (b c x s) .1
+
+    -- that of the production that it came through last
+    module _ (z : part0 (at P k) ≡ 5) where
+      its-last : (c : ℕ) (x : Letter) → LetterAt P c n x → (part1 (at P k) < k)
+          × ((ps : List ℕ) × CameNode P c (part1 (at P k)) ps (x .literals) (x .writes) × (test (x .through) ≡ test (part2 (at P k) ∷ ps)))
+      unfolding CameNode LetterNode Node
+      its-last c x s = by (b c x s)
+        where
+          by : (ps : List ℕ) × CameNode P c k ps (x .literals) (x .writes) × (test (x .through) ≡ test ps) → (part1 (at P k) < k)
+              × ((ps : List ℕ) × CameNode P c (part1 (at P k)) ps (x .literals) (x .writes) × (test (x .through) ≡ test (part2 (at P k) ∷ ps)))
+          by ([], d, e) = absurd (omega (arith, d .0 .2))
+          by (p ∷ ps, d, e) = (d .1, (ps, d .3, e ∙ ap (λ (q : ℕ). test (q ∷ ps)) (sym (d .2))))
+
+      pub below-falls : SomeLetter P n → part1 (at P k) < k
+      below-falls (c, x, s) = its-last c x s .0
+
+      pub below-next : ((ps : List ℕ) → test (part2 (at P k) ∷ ps) ≡ test ps) → Below test P n (part1 (at P k))
+      below-next same c x s = let (l, (ps, d, e)) = its-last c x s in (ps, d, e ∙ same ps)
+
+      pub found-last : (v : Bool) → ((ps : List ℕ) → test (part2 (at P k) ∷ ps) ≡ v) → (c : ℕ) → (x : Letter) → LetterAt P c n x → v ≡ test (x .through)
+      found-last v is c x s = let (l, (ps, d, e)) = its-last c x s in sym (e ∙ is ps)
+
+pub some-bare : (P : List ℕ) (n k : ℕ) → ((c : ℕ) → (x : Letter) → LetterAt P c n x → BareAt P c k x) → SomeLetter P n → SomeBare P k
+some-bare P n k b (c, x, s) = (c, x, b c x s)
+
 -- ---- the three forms
 
 -- an operator of two operands, and its kind
-data Operator : ℕ → (Exp → Exp → Exp) → Type 0 where
+pub data Operator : ℕ → (Exp → Exp → Exp) → Type 0 where
   is-seq : Operator 1 seq
   is-alt : Operator 2 alt
   is-pipe : Operator 4 pipe
@@ -67,13 +127,13 @@ module _ (e f : Exp) where
   two-rows is-alt = refl
   two-rows is-pipe = refl
 
-  two-size : {k : ℕ} {op : Exp → Exp → Exp} → Operator k op → size (op e f) ≡ size e + size f
+  pub two-size : {k : ℕ} {op : Exp → Exp → Exp} → Operator k op → size (op e f) ≡ size e + size f
   unfolding size
   two-size is-seq = refl
   two-size is-alt = refl
   two-size is-pipe = refl
 
-  two-letters : {k : ℕ} {op : Exp → Exp → Exp} → Operator k op → letters (op e f) ≡ letters e ++ letters f
+  pub two-letters : {k : ℕ} {op : Exp → Exp → Exp} → Operator k op → letters (op e f) ≡ letters e ++ letters f
   unfolding letters
   two-letters is-seq = refl
   two-letters is-alt = refl
@@ -86,21 +146,21 @@ module _ (e f : Exp) where
   two-codes r up l is-alt = refl
   two-codes r up l is-pipe = refl
 
-two-kind : {k : ℕ} {op : Exp → Exp → Exp} → Operator k op → (0 < k) × (k ≡ 3 → ⊥)
-two-kind is-seq = (omega arith, λ e. omega arith)
-two-kind is-alt = (omega arith, λ e. omega arith)
-two-kind is-pipe = (omega arith, λ e. omega arith)
+two-kind : {k : ℕ} {op : Exp → Exp → Exp} → Operator k op → (letterKind k ≡ false) × (k ≡ 3 → ⊥)
+two-kind is-seq = (refl, λ e. omega arith)
+two-kind is-alt = (refl, λ e. omega arith)
+two-kind is-pipe = (refl, λ e. omega arith)
 
 -- what stands at node n
-data Form (P : List ℕ) (c n : ℕ) : Exp → Type 0 where
-  of-letter : (x : Letter) → part0 (at P n) ≡ 0 → Form P c n (letter x)
+pub data Form (P : List ℕ) (c n : ℕ) : Exp → Type 0 where
+  of-letter : (x : Letter) → letterKind (part0 (at P n)) ≡ true → Form P c n (letter x)
   of-star : (e : Exp) → part0 (at P n) ≡ 3 → part1 (at P n) < n → Denotes P c (part1 (at P n)) e → Form P c n (star e)
   of-two : (e f : Exp) (k : ℕ) (op : Exp → Exp → Exp) → Operator k op → part0 (at P n) ≡ k → part1 (at P n) < n → part2 (at P n) < n
       → Denotes P c (part1 (at P n)) e → Denotes P c (part2 (at P n)) f → Form P c n (op e f)
 
-form : (P : List ℕ) (c n : ℕ) (e : Exp) → Denotes P c n e → Form P c n e
+pub form : (P : List ℕ) (c n : ℕ) (e : Exp) → Denotes P c n e → Form P c n e
 unfolding Denotes Node
-form P c n (letter x) d = of-letter x (d .0 .2)
+form P c n (letter x) d = of-letter x (kind-letter P c n (letter x) d)
 form P c n (seq e f) (h, p, q, d, g) = of-two e f 1 seq is-seq (h .2) p q d g
 form P c n (alt e f) (h, p, q, d, g) = of-two e f 2 alt is-alt (h .2) p q d g
 form P c n (star e) (h, p, d) = of-star e (h .2) p d
@@ -108,7 +168,7 @@ form P c n (pipe e f) (h, p, q, d, g) = of-two e f 4 pipe is-pipe (h .2) p q d g
 
 -- ---- room
 
-some-room : (e : Exp) → (1 ≤ rows e) × (1 ≤ size e)
+pub some-room : (e : Exp) → (1 ≤ rows e) × (1 ≤ size e)
 unfolding rows size
 some-room (letter x) = (omega arith, omega arith)
 some-room (seq e f) = let (a, b) = some-room e in (omega arith, omega arith)
@@ -140,12 +200,7 @@ letters-long (pipe e f) = omega (arith, length-append (letters e) (letters f), l
 
 module _ (P : List ℕ) (n row index : ℕ) where
   pub node-inside : SomeExp P n row index → n < length P
-  unfolding Denotes Node
-  node-inside (c, letter x, s) = omega (arith, s .denotes .0 .1, s .within)
-  node-inside (c, seq e f, s) = omega (arith, s .denotes .0 .1, s .within)
-  node-inside (c, alt e f, s) = omega (arith, s .denotes .0 .1, s .within)
-  node-inside (c, star e, s) = omega (arith, s .denotes .0 .1, s .within)
-  node-inside (c, pipe e f, s) = omega (arith, s .denotes .0 .1, s .within)
+  node-inside (c, e, s) = omega (arith, node-of P c n e (s .denotes) .1, s .within)
 
   pub first-room : SomeExp P n row index → (row < 1024) × (index < 256)
   first-room (c, e, s) = let (a, b) = some-room e in (omega (arith, s .room), omega (arith, s .space))
@@ -156,54 +211,57 @@ module _ (P : List ℕ) (n row index : ℕ) where
 
 -- ---- a letter
 
-module _ (P : List ℕ) (n row index k : ℕ) (q : k ≡ part0 (at P n)) (z : k ≡ 0) where
+module _ (P : List ℕ) (n k : ℕ) (q : k ≡ part0 (at P n)) (z : letterKind k ≡ true) where
+  kind : letterKind (part0 (at P n)) ≡ true
+  kind = rw q at z
+
   a-letter : (c : ℕ) {g : Exp} → Form P c n g → (x : Letter) × (g ≡ letter x)
   a-letter c (of-letter x h) = (x, refl)
-  a-letter c (of-star e h p d) = absurd (omega arith)
-  a-letter c (of-two e f k op o h p i d g) = let a = two-kind o .0 in absurd (omega arith)
+  a-letter c (of-star e h p d) = clash (let e : letterKind (part0 (at P n)) ≡ false = ap letterKind h in cc (kind))
+  a-letter c (of-two e f k op o h p i d g) = clash (let e : letterKind (part0 (at P n)) ≡ false = ap letterKind h ∙ two-kind o .0 in cc (kind))
 
-  letter-at : (c : ℕ) (g : Exp) → ExpAt P c n row index g → (x : Letter) × (g ≡ letter x) × LetterAt P c n x
-  letter-at c g s =
-      let (x, e) = a-letter c (form P c n g (s .denotes)) in
-      (x, e, record { within = s .within; denotes = subst (Denotes P c n) e (s .denotes) })
+  pub letter-at : (c : ℕ) (g : Exp) → c ≤ length P → Denotes P c n g → (x : Letter) × (g ≡ letter x) × LetterAt P c n x
+  letter-at c g l d = let (x, e) = a-letter c (form P c n g d) in (x, e, record { within = l; denotes = subst (Denotes P c n) e d })
 
+module _ (P : List ℕ) (n row index k : ℕ) (q : k ≡ part0 (at P n)) (z : letterKind k ≡ true) where
   pub some-letter : SomeExp P n row index → SomeLetter P n
-  some-letter (c, g, s) = let (x, e, t) = letter-at c g s in (c, x, t)
+  some-letter (c, g, s) = let (x, e, t) = letter-at P n k q z c g (s .within) (s .denotes) in (c, x, t)
 
   pub letter-lays : (up : ℕ) (T T′ : List ℕ) (L L′ : LetterLists) → ((c : ℕ) → (x : Letter) → LetterAt P c n x → L′ ≡ withLetters L index (x ∷ []))
       → T′ ≡ withRows T row (rowCode 0 index 0 up ∷ []) → Lays P n row index up T T′ L L′ (row + 1) (index + 1)
   unfolding rowCodes letters rows size
   letter-lays up T T′ L L′ a b c g s =
-      let (x, e, t) = letter-at c g s in
+      let (x, e, t) = letter-at P n k q z c g (s .within) (s .denotes) in
       subst (λ (g : Exp). Stored row up index g T T′ L L′ (row + 1) (index + 1)) (sym e)
       record { rows-stored = b; letters-stored = a c x t; next-row = refl; next-letter = refl }
 
 -- ---- an operator's first operand
 
-module _ (P : List ℕ) (n row index k i : ℕ) (q : k ≡ part0 (at P n)) (b : i ≡ part1 (at P n)) where
-  first-of : (c : ℕ) {g : Exp} → Form P c n g → (k ≡ 0 → ⊥) → (i < n) × ((e : Exp) × Denotes P c i e × (1 + rows e ≤ rows g) × (size e ≤ size g))
+module _ (P : List ℕ) (n k i : ℕ) (q : k ≡ part0 (at P n)) (b : i ≡ part1 (at P n)) where
+  pub first-of : (c : ℕ) {g : Exp} → Form P c n g → letterKind k ≡ false → (i < n) × ((e : Exp) × Denotes P c i e × (1 + rows e ≤ rows g) × (size e ≤ size g))
   unfolding rows size
-  first-of c (of-letter x h) z = absurd (z (q ∙ h))
+  first-of c (of-letter x h) z = clash (cc)
   first-of c (of-star e h p d) z = (omega arith, (e, rw b d, omega arith, omega arith))
   first-of c (of-two e f k op o h p j d g) z = (omega arith, (e, rw b d, omega (arith, two-rows e f o), omega (arith, two-size e f o)))
 
-  pub some-first : (k ≡ 0 → ⊥) → SomeExp P n row index → (i < n) × SomeExp P i (row + 1) index
+  pub a-star : (c : ℕ) {g : Exp} → Form P c n g → k ≡ 3 → (e : Exp) × (g ≡ star e) × Denotes P c i e
+  a-star c (of-letter x h) z = clash (let e : letterKind (part0 (at P n)) ≡ false = ap letterKind (sym q ∙ z) in cc)
+  a-star c (of-star e h p d) z = (e, refl, rw b d)
+  a-star c (of-two e f k op o h p j d g) z = absurd (two-kind o .1 (sym h ∙ sym q ∙ z))
+
+module _ (P : List ℕ) (n row index k i : ℕ) (q : k ≡ part0 (at P n)) (b : i ≡ part1 (at P n)) where
+  pub some-first : letterKind k ≡ false → SomeExp P n row index → (i < n) × SomeExp P i (row + 1) index
   some-first z (c, g, s) =
-      let (l, (e, d, x, y)) = first-of c (form P c n g (s .denotes)) z in
+      let (l, (e, d, x, y)) = first-of P n k i q b c (form P c n g (s .denotes)) z in
       (l, (c, e, record { within = s .within; denotes = d; room = omega (arith, s .room); space = omega (arith, s .space) }))
 
   -- ---- a star
-
-  a-star : (c : ℕ) {g : Exp} → Form P c n g → k ≡ 3 → (e : Exp) × (g ≡ star e) × Denotes P c i e
-  a-star c (of-letter x h) z = absurd (omega arith)
-  a-star c (of-star e h p d) z = (e, refl, rw b d)
-  a-star c (of-two e f k op o h p j d g) z = absurd (two-kind o .1 (sym h ∙ sym q ∙ z))
 
   pub star-lays : k ≡ 3 → (up : ℕ) (T T₁ T′ : List ℕ) (L L′ : LetterLists) (r l : ℕ) → Lays P i (row + 1) index row T T₁ L L′ r l
       → T′ ≡ withRows T₁ row (rowCode 3 (row + 1) 0 up ∷ []) → Lays P n row index up T T′ L L′ r l
   unfolding rowCodes letters rows size
   star-lays z up T T₁ T′ L L′ r l a m c g s =
-      let (e, w, d) = a-star c (form P c n g (s .denotes)) z in
+      let (e, w, d) = a-star P n k i q b c (form P c n g (s .denotes)) z in
       let x : row + rows (star e) ≤ 1024 = rw w at (s .room) in
       let y : index + size (star e) ≤ 256 = rw w at (s .space) in
       let t = a c e (record { within = s .within; denotes = d; room = omega arith; space = y }) in
@@ -217,24 +275,24 @@ module _ (P : List ℕ) (n row index k i : ℕ) (q : k ≡ part0 (at P n)) (b : 
 
 -- ---- an operator of two operands
 
-record Two (P : List ℕ) (c n k i j : ℕ) (g : Exp) : Type 0 where
-  e : Exp
-  f : Exp
-  op : Exp → Exp → Exp
-  operator : Operator k op
-  whole : g ≡ op e f
-  falls : j < n
-  first : Denotes P c i e
-  second : Denotes P c j f
+pub record Two (P : List ℕ) (c n k i j : ℕ) (g : Exp) : Type 0 where
+  pub e : Exp
+  pub f : Exp
+  pub op : Exp → Exp → Exp
+  pub operator : Operator k op
+  pub whole : g ≡ op e f
+  pub falls : j < n
+  pub first : Denotes P c i e
+  pub second : Denotes P c j f
 
 -- what is known of the second when the first is laid
 pub record Second (P : List ℕ) (n j next from : ℕ) : Type 0 where
   pub falls : j < n
   pub stands : SomeExp P j next from
 
-module _ (P : List ℕ) (n row index k i j : ℕ) (q : k ≡ part0 (at P n)) (b : i ≡ part1 (at P n)) (b′ : j ≡ part2 (at P n)) (z : k ≡ 0 → ⊥) (y : k ≡ 3 → ⊥) where
-  two : (c : ℕ) {g : Exp} → Form P c n g → Two P c n k i j g
-  two c (of-letter x h) = absurd (z (q ∙ h))
+module _ (P : List ℕ) (n k i j : ℕ) (q : k ≡ part0 (at P n)) (b : i ≡ part1 (at P n)) (b′ : j ≡ part2 (at P n)) (z : letterKind k ≡ false) (y : k ≡ 3 → ⊥) where
+  pub two : (c : ℕ) {g : Exp} → Form P c n g → Two P c n k i j g
+  two c (of-letter x h) = clash (cc)
   two c (of-star e h p d) = absurd (y (q ∙ h))
   two c (of-two e f m op o h p p′ d d′) = record {
     e = e;
@@ -247,6 +305,7 @@ module _ (P : List ℕ) (n row index k i j : ℕ) (q : k ≡ part0 (at P n)) (b 
     second = rw b′ d′;
   }
 
+module _ (P : List ℕ) (n row index k i j : ℕ) (q : k ≡ part0 (at P n)) (b : i ≡ part1 (at P n)) (b′ : j ≡ part2 (at P n)) (z : letterKind k ≡ false) (y : k ≡ 3 → ⊥) where
   module _ (c : ℕ) (g : Exp) (s : ExpAt P c n row index g) (w : Two P c n k i j g) where
     whole-rows : rows g ≡ 1 + rows (w .e) + rows (w .f)
     whole-rows = ap rows (w .whole) ∙ two-rows (w .e) (w .f) (w .operator)
@@ -267,7 +326,7 @@ module _ (P : List ℕ) (n row index k i j : ℕ) (q : k ≡ part0 (at P n)) (b 
   module _ (T T₁ : List ℕ) (L L₁ : LetterLists) (next from : ℕ) (a : Lays P i (row + 1) index row T T₁ L L₁ next from) where
     pub second-operand : SomeExp P n row index → Second P n j next from
     second-operand (c, g, s) =
-        let w = two c (form P c n g (s .denotes)) in
+        let w = two P n k i j q b b′ z y c (form P c n g (s .denotes)) in
         let t = a c (w .e) (first-at c g s w) in
         record {
           falls = w .falls;
@@ -277,7 +336,7 @@ module _ (P : List ℕ) (n row index k i j : ℕ) (q : k ≡ part0 (at P n)) (b 
     pub two-lays : (up : ℕ) (T₂ T′ : List ℕ) (L′ : LetterLists) (r l : ℕ) → Lays P j next from row T₁ T₂ L₁ L′ r l
         → T′ ≡ withRows T₂ row (rowCode k (row + 1) next up ∷ []) → Lays P n row index up T T′ L L′ r l
     two-lays up T₂ T′ L′ r l d m c g s =
-        let w = two c (form P c n g (s .denotes)) in
+        let w = two P n k i j q b b′ z y c (form P c n g (s .denotes)) in
         let t = a c (w .e) (first-at c g s w) in
         let u = d c (w .f) (second-at c g s w next from (t .next-row) (t .next-letter)) in
         record {

@@ -5,8 +5,8 @@ use mathlib.Core.List.{List, [], _∷_, _++_, map, map-append, append-nil}
 use Prim.Native.Nat.{ℕ, zero, suc, _+_, _<_, _≤_}
 use native.Mathlib.Omega.{arith}
 use lib.Dec.{eqb, eqb→eq}
-use lib.ListN.{length, length-append, length-map, getD, take, replicate, length-replicate, set, length-set}
-use lib.Seq.{sets, set-out, length-take-le, take-suc}
+use lib.ListN.{length, length-append, length-map, length-drop, getD, take, drop, replicate, length-replicate, set, length-set}
+use lib.Seq.{sets, set-out, length-take-le, take-suc, getD-drop}
 use Rattle.masks.specs.Masks.{look, want, held}
 use Rattle.meaning.specs.Lists.{each}
 use Rattle.meaning.specs.Expression.{Letter, Exp, letter, seq, alt, star, pipe, letters, size, rows, renumbered}
@@ -132,7 +132,7 @@ codes-renumbered r u l k (star e) = ap (λ s. rowCode 3 (suc r) 0 u ∷ s) (code
 codes-renumbered r u l k (pipe e f) = both 4 r u l k e f (codes-renumbered (suc r) r l k e) (codes-renumbered (suc r + rows e) r (l + size e) (k + size e) f)
 
 -- what is told of letters without their numbers
-module _ {B : Type 0} (f : Letter → B) (same : (x : Letter) (k : ℕ) → f (record { number = k; literals = x .literals; writes = x .writes }) ≡ f x) where
+module _ {B : Type 0} (f : Letter → B) (same : (x : Letter) (k : ℕ) → f (record { number = k; literals = x .literals; writes = x .writes; through = x .through }) ≡ f x) where
   two : (e g : Exp) (k : ℕ) → map f (letters (renumbered k e)) ≡ map f (letters e) → map f (letters (renumbered (k + size e) g)) ≡ map f (letters g)
       → map f (letters (renumbered k e) ++ letters (renumbered (k + size e) g)) ≡ map f (letters e ++ letters g)
   two e g k p q = map-append f (letters (renumbered k e)) (letters (renumbered (k + size e) g)) ∙ ap₂ _++_ p q ∙ sym (map-append f (letters e) (letters g))
@@ -145,7 +145,7 @@ module _ {B : Type 0} (f : Letter → B) (same : (x : Letter) (k : ℕ) → f (r
   letters-renumbered k (star e) = letters-renumbered k e
   letters-renumbered k (pipe e g) = two e g k (letters-renumbered k e) (letters-renumbered (k + size e) g)
 
-  each-renumbered : (ms : List Exp) → map f (each (map (renumbered 0) ms) letters) ≡ map f (each ms letters)
+  pub each-renumbered : (ms : List Exp) → map f (each (map (renumbered 0) ms) letters) ≡ map f (each ms letters)
   each-renumbered [] = refl
   each-renumbered (m ∷ ms) = map-append f (letters (renumbered 0 m)) _ ∙ ap₂ _++_ (letters-renumbered 0 m) (each-renumbered ms) ∙ sym (map-append f (letters m) _)
 
@@ -154,7 +154,7 @@ flat : {B : Type 0} (f : Letter → List B) (xs : List Letter) → each xs f ≡
 flat f [] = refl
 flat f (x ∷ xs) = ap (λ ys. f x ++ ys) (flat f xs)
 
-flat-renumbered : {B : Type 0} (f : Letter → List B) → ((x : Letter) (k : ℕ) → f (record { number = k; literals = x .literals; writes = x .writes }) ≡ f x) → (ms : List Exp)
+flat-renumbered : {B : Type 0} (f : Letter → List B) → ((x : Letter) (k : ℕ) → f (record { number = k; literals = x .literals; writes = x .writes; through = x .through }) ≡ f x) → (ms : List Exp)
     → each (each (map (renumbered 0) ms) letters) f ≡ each (each ms letters) f
 flat-renumbered f same ms = flat f (each (map (renumbered 0) ms) letters) ∙ ap (λ ys. each ys (λ y. y)) (each-renumbered f same ms) ∙ sym (flat f (each ms letters))
 
@@ -189,3 +189,8 @@ tables-renumbered A i r l ms =
 pub values-more : (L W : List ℕ) (i : ℕ) → i < length W → set (sets L 0 (take i W)) i (getD W i 0) ≡ sets L 0 (take (i + 1) W)
 values-more L W i h =
     sets-behind L 0 i (take i W) (getD W i 0 ∷ []) (take (i + 1) W) (let l = length-take-le i W (omega arith) in omega (arith, l)) (let e : i + 1 ≡ suc i = omega arith in ap (λ (n : ℕ). take n W) e ∙ take-suc W i 0 h)
+
+-- the same of those behind the first k
+pub later-more : (L S : List ℕ) (k i : ℕ) → k + i < length S → set (sets L 0 (take i (drop k S))) i (getD S (k + i) 0) ≡ sets L 0 (take (i + 1) (drop k S))
+later-more L S k i h =
+    ap (set (sets L 0 (take i (drop k S))) i) (sym (getD-drop k S i 0)) ∙ values-more L (drop k S) i (omega (arith, length-drop k S))

@@ -12,7 +12,7 @@ use Rattle.lexer.specs.Tokens as token
 use Rattle.lexer.specs.Tokens.{Token, Placed, goesOn, tokenAt, ruleWords}
 use Rattle.lexer.proofs.Sized.{lies}
 use Rattle.meaning.specs.Answers.{refused}
-use Rattle.meaning.specs.Reading.{Expect, sign, nought, Step, go, fault, isSign, is, choose, unless, atToken, numberOf, notHere, ifName, onName, ifNumber, onNumber, step, andThen, isPast, spellingOf}
+use Rattle.meaning.specs.Reading.{Expect, sign, keyword, nought, Step, go, fault, isSign, is, choose, unless, atToken, numberOf, notHere, ifName, onName, ifNumber, onNumber, step, andThen, ordinal, isWord, spellingOf}
 use Rattle.meaning.specs.Names.{Names}
 use Rattle.meaning.proofs.Stops.{read-from}
 use Rattle.rules.specs.declared.tokens.Seen.{Seen}
@@ -30,13 +30,23 @@ ill (fine z a) n = absurd (n z)
 ill (faulted m b) n = b
 
 pub faulty : (k : ℕ) → faultOf k ≡ 0 → ⊥
-faulty k = by (ltb k 26)
+faulty k = by (ltb k 29)
   where
     by : (b : Bool) → _≡_ {A = ℕ} (cond b 3 2) 0 → ⊥
     by true e = omega arith
     by false e = omega arith
 
 -- ---- the token at a position, by its kind
+
+pub word-kind : (w : token.Word) → (wordKind w ≡ 20 + ordinal w) × (ordinal w < 8)
+word-kind token.input = (refl, omega arith)
+word-kind token.internal = (refl, omega arith)
+word-kind token.define = (refl, omega arith)
+word-kind token.monitor = (refl, omega arith)
+word-kind token.past = (refl, omega arith)
+word-kind token.limit = (refl, omega arith)
+word-kind token.to = (refl, omega arith)
+word-kind token.inside = (refl, omega arith)
 
 module _ (Q : Token → ℕ → Type 0) (k : ℕ) where
   pick : (n : ℕ) (t u : Token) → n ≤ k → Q t n → (n + 1 ≤ k → Q u k) → Q (cond (eqb k n) t u) k
@@ -54,18 +64,21 @@ module _ (Q : Token → ℕ → Type 0) (k : ℕ) where
       by false e = b (ltb-false k 18 e)
 
   pub by-kind : (s : List ℕ) (v : ℕ) → (k < 18 → Q (token.sign k) k) → Q (token.name s) 18 → Q (token.number v) 19
-      → ((w : token.Word) → 20 ≤ wordKind w → wordKind w < 25 → Q (token.word w) (wordKind w)) → Q token.end 25 → (26 ≤ k → Q (token.refused 2) k) → Q (tokenOf k s v) k
+      → ((w : token.Word) → 20 ≤ wordKind w → wordKind w < 28 → Q (token.word w) (wordKind w)) → Q token.end 28 → (29 ≤ k → Q (token.refused 2) k) → Q (tokenOf k s v) k
   unfolding tokenOf
   by-kind s v sg nm nu wd en kn =
       low _ _ sg (λ l.
       pick 18 _ _ l nm (λ a. pick 19 _ _ a nu (λ b.
-      pick 20 _ _ b (wd token.input (omega arith) (omega arith)) (λ c. pick 21 _ _ c (wd token.internal (omega arith) (omega arith)) (λ d.
-      pick 22 _ _ d (wd token.define (omega arith) (omega arith)) (λ f. pick 23 _ _ f (wd token.monitor (omega arith) (omega arith)) (λ g.
-      pick 24 _ _ g (wd token.past (omega arith) (omega arith)) (λ i. pick 25 _ _ i en kn))))))))
+      pick 20 _ _ b (word token.input) (λ c. pick 21 _ _ c (word token.internal) (λ d. pick 22 _ _ d (word token.define) (λ f.
+      pick 23 _ _ f (word token.monitor) (λ g. pick 24 _ _ g (word token.past) (λ i. pick 25 _ _ i (word token.limit) (λ j.
+      pick 26 _ _ j (word token.to) (λ m. pick 27 _ _ m (word token.inside) (λ o. pick 28 _ _ o en kn)))))))))))
+    where
+      word : (w : token.Word) → Q (token.word w) (wordKind w)
+      word w = wd w (omega (arith, word-kind w)) (omega (arith, word-kind w))
 
 sign-kind : (k kind : ℕ) (s : List ℕ) (v : ℕ) → k < 18 → isSign k (tokenOf kind s v) ≡ eqb k kind
 sign-kind k kind s v h =
-    by-kind (λ (t : Token) (n : ℕ). isSign k t ≡ eqb k n) kind s v (λ l. refl) (other 18 (omega arith)) (other 19 (omega arith)) (λ w l m. other (wordKind w) (omega arith)) (other 25 (omega arith)) (λ l. other kind (omega arith))
+    by-kind (λ (t : Token) (n : ℕ). isSign k t ≡ eqb k n) kind s v (λ l. refl) (other 18 (omega arith)) (other 19 (omega arith)) (λ w l m. other (wordKind w) (omega arith)) (other 28 (omega arith)) (λ l. other kind (omega arith))
   where
     other : (n : ℕ) → 18 ≤ n → false ≡ eqb k n
     other n l = sym (ne-eqb k n (λ (q : k ≡ n). omega arith))
@@ -83,30 +96,31 @@ name-kind kind s v n next other =
 
 number-of : (kind : ℕ) (s : List ℕ) (v : ℕ) → numberOf (tokenOf kind s v) ≡ faultOf kind
 number-of kind s v =
-    by-kind (λ (t : Token) (m : ℕ). numberOf t ≡ faultOf m) kind s v (λ l. low kind (omega arith)) refl refl (λ w l g. low (wordKind w) (omega arith)) refl (λ l. sym (ap (λ (b : Bool). cond {A = ℕ} b 3 2) (le-ltb kind 26 l)))
+    by-kind (λ (t : Token) (m : ℕ). numberOf t ≡ faultOf m) kind s v (λ l. low kind (omega arith)) refl refl (λ w l g. low (wordKind w) (omega arith)) refl (λ l. sym (ap (λ (b : Bool). cond {A = ℕ} b 3 2) (le-ltb kind 29 l)))
   where
-    low : (m : ℕ) → m < 26 → 3 ≡ faultOf m
-    low m l = sym (ap (λ (b : Bool). cond {A = ℕ} b 3 2) (lt-ltb m 26 l))
+    low : (m : ℕ) → m < 29 → 3 ≡ faultOf m
+    low m l = sym (ap (λ (b : Bool). cond {A = ℕ} b 3 2) (lt-ltb m 29 l))
 
-past-kind : (kind : ℕ) (s : List ℕ) (v : ℕ) → isPast (tokenOf kind s v) ≡ eqb kind 24
-past-kind kind s v =
-    by-kind (λ (t : Token) (m : ℕ). isPast t ≡ eqb m 24) kind s v (λ l. sym (ne-eqb kind 24 (λ (q : kind ≡ 24). omega arith))) refl refl (λ w l g. word w) refl
-    (λ l. sym (ne-eqb kind 24 (λ (q : kind ≡ 24). omega arith)))
+-- a reserved word
+word-token : (w : token.Word) (kind : ℕ) (s : List ℕ) (v : ℕ) → isWord w (tokenOf kind s v) ≡ eqb kind (wordKind w)
+word-token w kind s v =
+    by-kind (λ (t : Token) (m : ℕ). isWord w t ≡ eqb m (wordKind w)) kind s v (λ l. other kind (λ q. omega arith)) (other 18 (λ q. omega arith)) (other 19 (λ q. omega arith)) (λ u l g. word u (eqb (ordinal w) (ordinal u)) refl)
+    (other 28 (λ q. omega arith)) (λ l. other kind (λ q. omega arith))
   where
-    word : (w : token.Word) → isPast (token.word w) ≡ eqb (wordKind w) 24
-    word token.input = refl
-    word token.internal = refl
-    word token.define = refl
-    word token.monitor = refl
-    word token.past = refl
+    other : (m : ℕ) → ((20 ≤ m) × (m < 28) → ⊥) → false ≡ eqb m (wordKind w)
+    other m n = sym (ne-eqb m (wordKind w) (λ (q : m ≡ wordKind w). n (omega (arith, word-kind w), omega (arith, word-kind w))))
 
-goes-kind : (kind : ℕ) (s : List ℕ) (v : ℕ) → kind < 25 → goesOn (tokenOf kind s v) ≡ true
-goes-kind kind s v = by-kind (λ (t : Token) (m : ℕ). m < 25 → goesOn t ≡ true) kind s v (λ l o. refl) (λ o. refl) (λ o. refl) (λ w l g o. refl) (λ o. absurd (omega arith)) (λ l o. absurd (omega arith))
+    word : (u : token.Word) (b : Bool) → eqb (ordinal w) (ordinal u) ≡ b → b ≡ eqb (wordKind u) (wordKind w)
+    word u true e = sym (eq-eqb (wordKind u) (wordKind w) (omega (arith, word-kind u, word-kind w, eqb-true (ordinal w) (ordinal u) e)))
+    word u false e = sym (ne-eqb (wordKind u) (wordKind w) (λ q. eqb-false (ordinal w) (ordinal u) e (omega (arith, word-kind u, word-kind w))))
+
+goes-kind : (kind : ℕ) (s : List ℕ) (v : ℕ) → kind < 28 → goesOn (tokenOf kind s v) ≡ true
+goes-kind kind s v = by-kind (λ (t : Token) (m : ℕ). m < 28 → goesOn t ≡ true) kind s v (λ l o. refl) (λ o. refl) (λ o. refl) (λ w l g o. refl) (λ o. absurd (omega arith)) (λ l o. absurd (omega arith))
 
 -- ---- reading on from a position
 
 module _ (text : List ℕ) (at : ℕ) (t : Seen) (e : Sees text at t) where
-  pub past : t .kind < 25 → Past text at (t .after)
+  pub past : t .kind < 28 → Past text at (t .after)
   unfolding seen
   past l =
       let z = lies ruleWords text at in
@@ -130,7 +144,7 @@ module _ (text : List ℕ) (at : ℕ) (t : Seen) (e : Sees text at t) where
       let g = z .grows (sym (ap (λ (u : Placed). goesOn (u .token)) (e .token)) ∙ goes-kind (t .kind) _ (t .value) (omega arith)) in
       omega (arith, ap (λ (u : Placed). u .place) (e .token), ap (λ (u : Placed). u .after) (e .token))
 
-  pub past-at : t .kind < 25 → t .place < t .after
+  pub past-at : t .kind < 28 → t .place < t .after
   unfolding seen
   past-at q =
       let z = lies ruleWords text at in
@@ -171,9 +185,12 @@ module _ (text : List ℕ) (at : ℕ) (t : Seen) (e : Sees text at t) where
   pub spelled : t .kind ≡ 18 → spellingOf (seen text t .token) ≡ take (t .after - t .place) (drop (t .place) text)
   spelled q = ap (λ (u : Placed). spellingOf (u .token)) (name-is q)
 
-  pub is-past : isPast (seen text t .token) ≡ eqb (t .kind) 24
+  pub is-word : (w : token.Word) → isWord w (seen text t .token) ≡ eqb (t .kind) (wordKind w)
   unfolding seen
-  is-past = past-kind (t .kind) _ (t .value)
+  is-word w = word-token w (t .kind) _ (t .value)
+
+  pub is-past : isWord token.past (seen text t .token) ≡ eqb (t .kind) 24
+  is-past = is-word token.past
 
   pub no-name : (t .kind ≡ 18 → ⊥) → (next : List ℕ → Step) → onName (seen text t) next ≡ fault (t .fault) (t .place)
   unfolding onName seen
@@ -201,7 +218,7 @@ pub right : (b : Bool) (n : ℕ) (t : Placed) (s : Step) → b ≡ false → unl
 unfolding unless choose
 right b n t s e = rw e
 
--- ---- a sign, a number, and `:0]`
+-- ---- a sign, a reserved word, a number, and `:0]`
 
 module _ (text : List ℕ) (at : ℕ) (t : Seen) (e : Sees text at t) where
   pub sign-behind : (k : ℕ) → k < 18 → t .kind ≡ k → Behind text at 0 (t .after) (sign k)
@@ -212,6 +229,20 @@ module _ (text : List ℕ) (at : ℕ) (t : Seen) (e : Sees text at t) where
   unfolding Behind step
   sign-not k l q =
       faulted (faults text at t e) (λ ns y. on-step text at t e ns (sign k y) _ (no _ _ _ (is-off text at t e k l q) ∙ not-here text at t e))
+
+  pub word-behind : (w : token.Word) → t .kind ≡ wordKind w → Behind text at 0 (t .after) (keyword w)
+  unfolding Behind step
+  word-behind w q =
+      fine refl (
+        past text at t e (omega (arith, word-kind w)),
+        λ ns y. on-step text at t e ns (keyword w y) (go ns y) (yes _ _ _ (is-word text at t e w ∙ eq-eqb (t .kind) (wordKind w) q)),
+      )
+
+  pub word-not : (w : token.Word) → (t .kind ≡ wordKind w → ⊥) → Behind text at (t .fault) (t .place) (keyword w)
+  unfolding Behind step
+  word-not w q =
+      faulted (faults text at t e) (λ ns y.
+      on-step text at t e ns (keyword w y) _ (no _ _ _ (is-word text at t e w ∙ ne-eqb (t .kind) (wordKind w) q) ∙ not-here text at t e))
 
   -- a token that is no number, and one that is too large
   pub no-number : (t .kind ≡ 19 → ⊥) → NoNumber (seen text t) (t .fault)

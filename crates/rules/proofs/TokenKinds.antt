@@ -17,7 +17,7 @@ use Rattle.lexer.specs.Shown.{kindShown, shown}
 use Rattle.lexer.specs.declared.Kind.{Kind}
 use Rattle.lexer.specs.declared.Kind.the-variants as kind
 use Rattle.lexer.specs.declared.Word.{Word}
-use Rattle.lexer.specs.declared.Word.the-variants.{Input, Internal, Define, Monitor, Past}
+use Rattle.lexer.specs.declared.Word.the-variants.{Input, Internal, Define, Monitor, Past, Limit, To, In}
 use Rattle.rules.specs.Seen.{kindOf, valueOf, tokenOf, faultOf, seen, Sees}
 
 -- ---- a sign's number
@@ -96,6 +96,9 @@ of-kind s (kind.Word Internal) h = refl
 of-kind s (kind.Word Define) h = refl
 of-kind s (kind.Word Monitor) h = refl
 of-kind s (kind.Word Past) h = refl
+of-kind s (kind.Word Limit) h = refl
+of-kind s (kind.Word To) h = refl
+of-kind s (kind.Word In) h = refl
 of-kind s (kind.Number n) h = refl
 of-kind s (kind.Sign n) h = rw (lt-ltb n 18 h)
 of-kind s kind.End h = refl
@@ -109,8 +112,11 @@ of-fault s (kind.Word Internal) h = refl
 of-fault s (kind.Word Define) h = refl
 of-fault s (kind.Word Monitor) h = refl
 of-fault s (kind.Word Past) h = refl
+of-fault s (kind.Word Limit) h = refl
+of-fault s (kind.Word To) h = refl
+of-fault s (kind.Word In) h = refl
 of-fault s (kind.Number n) h = refl
-of-fault s (kind.Sign n) h = rw (lt-ltb n 26 (omega arith))
+of-fault s (kind.Sign n) h = rw (lt-ltb n 29 (omega arith))
 of-fault s kind.End h = refl
 of-fault s kind.Knot h = refl
 

@@ -1,6 +1,6 @@
 -- What the words that a text is read into stand for: store tests and writes, wires that must be as before, expressions, and the names that are declared (docs/REFERENCE.md, N1). A cell is
 -- known by the index of its first word; index 0 is none. The words below c are in use. Assumes nothing.
-use mathlib.Core.Bool.{Bool, true, false, cond}
+use mathlib.Core.Bool.{Bool, true, false, cond, _||_}
 use mathlib.Core.List.{List, [], _∷_}
 use mathlib.Core.Option.{Option, none, some}
 use mathlib.Core.Path.{_≡_}
@@ -77,11 +77,24 @@ pub record HeldIs (P : List ℕ) (c i : ℕ) (ls : List Literal) : Type 0 where
 unfoldable pub Node : List ℕ → (c k kind : ℕ) → Type 0
 Node P c k kind = (0 < k) × (k < c) × (part0 (at P k) ≡ kind)
 
+-- a letter of these literals and writes
+unfoldable pub LetterNode : List ℕ → (c k : ℕ) → List Literal → List Write → Type 0
+LetterNode P c k ls ws =
+    Node P c k 0 × (k + 2 < c) × (at P (k + 1) ≡ look ls) × (at P (k + 2) ≡ want ls)
+    × Links P c (part1 (at P k)) (testsOn [] ls) × Links P c (part2 (at P k)) (writesOn [] ws)
+    × HeldIs P c (part3 (at P k)) ls
+
+-- the same come through productions: a node for each, with its number, above that of the letter (S14)
+unfoldable pub CameNode : List ℕ → (c k : ℕ) → (through : List ℕ) → List Literal → List Write → Type 0
+CameNode P c k [] ls ws = LetterNode P c k ls ws
+CameNode P c k (p ∷ ps) ls ws = Node P c k 5 × (part1 (at P k) < k) × (part2 (at P k) ≡ p) × CameNode P c (part1 (at P k)) ps ls ws
+
+-- whether a node of this kind is one of these
+abbrev pub letterKind : ℕ → Bool
+letterKind k = eqb k 0 || eqb k 5
+
 unfoldable pub Denotes : List ℕ → (c k : ℕ) → Exp → Type 0
-Denotes P c k (letter l) =
-    Node P c k 0 × (k + 2 < c) × (at P (k + 1) ≡ look (l .literals)) × (at P (k + 2) ≡ want (l .literals))
-    × Links P c (part1 (at P k)) (testsOn [] (l .literals)) × Links P c (part2 (at P k)) (writesOn [] (l .writes))
-    × HeldIs P c (part3 (at P k)) (l .literals)
+Denotes P c k (letter l) = CameNode P c k (l .through) (l .literals) (l .writes)
 Denotes P c k (seq e f) =
     Node P c k 1 × (part1 (at P k) < k) × (part2 (at P k) < k) × Denotes P c (part1 (at P k)) e × Denotes P c (part2 (at P k)) f
 Denotes P c k (alt e f) =

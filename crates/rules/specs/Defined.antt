@@ -55,8 +55,10 @@ pub record HeadAt (Q : List ℕ) (h last place size : ℕ) : Type 0 where
   pub from : part2 (at Q h) ≡ place
   pub long : part3 (at Q h) ≡ size
 
--- the m words of a name that stands for something of type T
-pub record CellWritten (P : List ℕ) (c m last place size : ℕ) (T : Type 0) (Before : T → Type 0) (mean : T → Meaning) (Q : List ℕ) : Type 0 where
-  pub extends : Extends P c Q (c + m)
-  pub head : HeadAt Q c last place size
-  pub means : (t : T) → Before t → Means Q (c + m) c (mean t)
+-- the m words from index h on of a name that stands for something of type T
+pub record CellWritten (P : List ℕ) (c h m last place size : ℕ) (T : Type 0) (Before : T → Type 0) (mean : T → Meaning) (Q : List ℕ) : Type 0 where
+  pub since : c ≤ h
+  pub few : h + m ≤ c + 4
+  pub extends : Extends P c Q (h + m)
+  pub head : HeadAt Q h last place size
+  pub means : (t : T) → Before t → Means Q (h + m) h (mean t)

@@ -12,7 +12,7 @@ use Rattle.meaning.specs.Expression.{Letter, Exp, letter, seq, alt, star, pipe,
 use Rattle.masks.specs.Masks.{look, want, held}
 use Rattle.meaning.specs.Table.{Row, Kind, is-letter, is-seq, is-alt, is-star, is-pipe}
 use Rattle.words.specs.Words.{quad}
-use Rattle.rules.specs.Cells.{Link, testsOn, writesOn, LinkAt, Links, Denotes}
+use Rattle.rules.specs.Cells.{Link, testsOn, writesOn, LinkAt, Links, LetterNode, Denotes}
 
 -- ---- rows
 
@@ -145,6 +145,11 @@ pub record LetterAt (P : List ℕ) (c node : ℕ) (x : Letter) : Type 0 where
 
 abbrev pub SomeLetter : List ℕ → ℕ → Type 0
 SomeLetter P node = (c : ℕ) × (x : Letter) × LetterAt P c node x
+
+-- it stands there without the productions that it came through
+pub record BareAt (P : List ℕ) (c node : ℕ) (x : Letter) : Type 0 where
+  pub within : c ≤ length P
+  pub denotes : LetterNode P c node (x .literals) (x .writes)
 
 -- an expression stands at a node, and there is room for its rows and letters
 pub record ExpAt (P : List ℕ) (c node row index : ℕ) (e : Exp) : Type 0 where

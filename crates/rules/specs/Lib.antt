@@ -9,8 +9,10 @@ pub mod Tasks
 pub mod Written
 pub mod Expressions
 pub mod Scopes
+pub mod Limits
 pub mod Defined
 pub mod Laying
+pub mod Counted
 pub mod Parts
 pub mod Monitors
 pub mod Statements

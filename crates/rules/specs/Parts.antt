@@ -7,7 +7,7 @@ use mathlib.Core.Option.{Option, none, some}
 use mathlib.Core.Path.{_≡_}
 use Prim.Native.Nat.{ℕ, _+_, _<_, _≤_}
 use lib.Dec.{eqb}
-use Rattle.meaning.specs.Expression.{Literal, Write, Exp, seq, alt, star, pipe, size, aLetter, storeTests}
+use Rattle.meaning.specs.Expression.{Literal, Write, Exp, seq, alt, star, pipe, size, aLetter, storeTests, asProduction}
 use Rattle.meaning.specs.Shape.{nullable}
 use Rattle.meaning.specs.ShapeTests.{SizedLetters}
 use Rattle.meaning.specs.Summary.{counted, orLater, impossibleAt, hollowAt}
@@ -81,6 +81,12 @@ pub record StarMade (P : List ℕ) (c : ℕ) (p : Part) (Q : List ℕ) (d : ℕ)
   pub extends : Extends P c Q d
   pub few : d ≡ c + 1
   pub part : (e : Exp) → PartIs P c p e → PartIs Q d r (star e)
+
+-- of a part as the expression of a production with this number (S14): a single letter has a node more
+pub record ProductionMade (P : List ℕ) (c number : ℕ) (p : Part) (Q : List ℕ) (d : ℕ) (r : Part) : Type 0 where
+  pub extends : Extends P c Q d
+  pub few : d ≤ c + 1
+  pub part : (e : Exp) → PartIs P c p e → PartIs Q d r (asProduction number e)
 
 -- of a letter's condition and writes
 pub record LetterMade (P : List ℕ) (c : ℕ) (q : Condition) (link : ℕ) (Q : List ℕ) (d : ℕ) (r : Part) : Type 0 where

@@ -1,7 +1,7 @@
 -- What has been declared while a text is read, as the code has it, and what the functions that read declarations promise (docs/REFERENCE.md,
 -- G3 to G5, N1 to N3 and N6). Assumes nothing.
 use mathlib.Core.Bool.{Bool, true, false}
-use mathlib.Core.List.{List}
+use mathlib.Core.List.{List, map}
 use mathlib.Core.Option.{none}
 use mathlib.Core.Path.{_≡_}
 use Prim.Native.Nat.{ℕ, suc, _+_, _-_, _<_, _≤_}
@@ -13,17 +13,21 @@ use Rattle.lexer.specs.Tokens.{Placed, tokenAt, ruleWords}
 use Rattle.meaning.specs.Answers.{refused, byte}
 use Rattle.refusals.specs.Numbers.{oversize}
 use Rattle.meaning.specs.Reading.{Expect, statement, toZero, Step, go, fault, is, choose, unless, notHere, newName, onNumber, step}
-use Rattle.meaning.specs.Names.{Names}
+use Rattle.meaning.specs.Names.{Limit, Names}
 use Rattle.rules.specs.declared.declarations.Scope.{Scope}
 use Rattle.rules.specs.declared.declarations.Declared.{Declared}
-use Rattle.words.specs.Words.{part0, part1, part2, part3}
+use Rattle.words.specs.Words.{quad, part0, part1, part2, part3}
 use Rattle.rules.specs.Cells.{at, Cells}
 use Rattle.rules.specs.Reads.{readFrom, Unless, Past, placed}
 use Rattle.rules.specs.Conditions.{Extends, Room, Spent}
 
 -- ---- what has been declared
 
--- The names, by their cells among the words below c; the wires; and the stores, whose first values are the first of S.
+-- a limit in one word
+abbrev pub limitWord : Limit → ℕ
+limitWord l = quad (l .production) (l .most) (l .window) 0
+
+-- The names, by their cells among the words below c; the wires; the stores, whose first values are the first of S; and the limits, whose words are those of S from 16 on.
 pub record Known (text P S : List ℕ) (c : ℕ) (scope : Scope) (ns : Names) : Type 0 where
   pub cells : Cells text P c (scope .last) (ns .declared)
   pub count : scope .count ≡ length (ns .declared)
@@ -33,13 +37,16 @@ pub record Known (text P S : List ℕ) (c : ℕ) (scope : Scope) (ns : Names) : 
   pub stores : scope .stores ≡ length (ns .initial)
   pub room : scope .stores ≤ 16
   pub values : take (scope .stores) S ≡ ns .initial
+  pub limits : scope .limits ≡ length (ns .limits)
+  pub few-limits : scope .limits ≤ 8
+  pub bounds : take (scope .limits) (drop 16 S) ≡ map limitWord (ns .limits)
   pub low : scope .last < c
 
--- What a function is given: words with room, a text that is not overlong, a value for each of 16 stores, and some names.
+-- What a function is given: words with room, a text that is not overlong, a value for each of 16 stores and a word for each of 8 limits, and some names.
 pub record Ready (text P S : List ℕ) (pos c : ℕ) (scope : Scope) : Type 0 where
   pub room : Room text P pos c
   pub short : length text ≤ 16384
-  pub values : length S ≡ 16
+  pub values : length S ≡ 24
   pub names : (ns : Names) × Known text P S c scope ns
 
 -- A declaration is read from a state on, and a statement is expected.

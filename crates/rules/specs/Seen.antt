@@ -9,12 +9,16 @@ use Rattle.lexer.specs.Tokens as token
 use Rattle.lexer.specs.Tokens.{Token, Placed, tokenAt, ruleWords}
 use Rattle.rules.specs.declared.tokens.Seen.{Seen}
 
+-- from 20 on, in the order of T4
 abbrev pub wordKind : token.Word → ℕ
 wordKind token.input = 20
 wordKind token.internal = 21
 wordKind token.define = 22
 wordKind token.monitor = 23
 wordKind token.past = 24
+wordKind token.limit = 25
+wordKind token.to = 26
+wordKind token.inside = 27
 
 -- the kind of a token, and the value that it has if it is a number
 abbrev pub kindOf : Token → ℕ
@@ -22,8 +26,8 @@ kindOf (token.name s) = 18
 kindOf (token.word w) = wordKind w
 kindOf (token.number n) = 19
 kindOf (token.sign n) = n
-kindOf token.end = 25
-kindOf (token.refused n) = 26
+kindOf token.end = 28
+kindOf (token.refused n) = 29
 
 abbrev pub valueOf : Token → ℕ
 valueOf (token.name s) = 0
@@ -44,11 +48,14 @@ tokenOf k s v =
     (cond (eqb k 22) (token.word token.define)
     (cond (eqb k 23) (token.word token.monitor)
     (cond (eqb k 24) (token.word token.past)
-    (cond (eqb k 25) token.end (token.refused 2)))))))))
+    (cond (eqb k 25) (token.word token.limit)
+    (cond (eqb k 26) (token.word token.to)
+    (cond (eqb k 27) (token.word token.inside)
+    (cond (eqb k 28) token.end (token.refused 2))))))))))))
 
 -- X4: the number of the refusal of a token of this kind that is not allowed where it stands
 abbrev pub faultOf : ℕ → ℕ
-faultOf k = cond (ltb k 26) 3 2
+faultOf k = cond (ltb k 29) 3 2
 
 unfoldable pub seen : List ℕ → Seen → Placed
 seen s t =

@@ -1,9 +1,9 @@
 -- What the functions promise that read a text's statements (docs/REFERENCE.md, G2): its declarations, and then its monitors up to the end.
 -- Assumes nothing.
-use mathlib.Core.List.{List, []}
+use mathlib.Core.List.{List, [], map}
 use mathlib.Core.Path.{_≡_}
 use Prim.Native.Nat.{ℕ, _≤_}
-use lib.ListN.{length, take}
+use lib.ListN.{length, take, drop}
 use Rattle.lexer.specs.Tokens.{tokens, ruleWords}
 use Rattle.meaning.specs.Expression.{Exp}
 use Rattle.meaning.specs.Answers.{Answer, value, refused, byte}
@@ -14,7 +14,7 @@ use Rattle.rules.specs.Cells.{Cells}
 use Rattle.rules.specs.Reads.{readFrom, Unless, Past}
 use Rattle.rules.specs.Conditions.{Room}
 use Rattle.rules.specs.Monitors.{MonitorsAre}
-use Rattle.rules.specs.Scopes.{Known}
+use Rattle.rules.specs.Scopes.{limitWord, Known}
 
 -- ---- monitors
 
@@ -67,7 +67,7 @@ pub record Stated (text P S : List ℕ) (r : Declared) (Q T : List ℕ) : Type 0
 -- ---- a text
 
 -- what a text says, as the code has it
-pub record Says (text : List ℕ) (free wires stores count : ℕ) (Q T M : List ℕ) : Type 0 where
+pub record Says (text : List ℕ) (free wires stores limits count : ℕ) (Q T M : List ℕ) : Type 0 where
   pub program : Program
   pub reads : readOn noNames statement (tokens ruleWords text) ≡ value program
   pub monitors : MonitorsAre Q free M count (program .monitors)
@@ -76,7 +76,10 @@ pub record Says (text : List ℕ) (free wires stores count : ℕ) (Q T M : List 
   pub values : take stores T ≡ program .initial
   pub word : wires ≤ 64
   pub few : stores ≤ 16
+  pub limited : limits ≡ length (program .limits)
+  pub bounds : take limits (drop 16 T) ≡ map limitWord (program .limits)
+  pub few-limits : limits ≤ 8
 
-unfoldable pub TextRead : (text : List ℕ) → (f at free wires stores count : ℕ) → (Q T M : List ℕ) → Type 0
-TextRead text f at free wires stores count Q T M =
-    Unless f (Says text free wires stores count Q T M) (readOn noNames statement (tokens ruleWords text) ≡ refused f (byte at))
+unfoldable pub TextRead : (text : List ℕ) → (f at free wires stores limits count : ℕ) → (Q T M : List ℕ) → Type 0
+TextRead text f at free wires stores limits count Q T M =
+    Unless f (Says text free wires stores limits count Q T M) (readOn noNames statement (tokens ruleWords text) ≡ refused f (byte at))

@@ -19,12 +19,14 @@ ghost use Rattle.meaning.specs.Reading.{inputName, storeName};
 ghost use Rattle.rules.specs.Cells.{Declared as SomeNames};
 ghost use Rattle.rules.specs.Scopes.{Ready, Declares, NameRead, NameWritten, WidthRead};
 
-// What has been declared: the cell of the last name, how many names there are, the wires that are taken, and the stores.
+// What has been declared: the cell of the last name, how many names there are, the wires that are taken, the stores, and the
+// limits.
 pub(crate) struct Scope {
     pub(crate) last: usize,
     pub(crate) count: usize,
     pub(crate) wires: usize,
     pub(crate) stores: usize,
+    pub(crate) limits: usize,
 }
 
 // A declaration more, and where to read on; or a refusal.
@@ -214,6 +216,7 @@ pub(crate) fn input(
             count: scope.count + 1,
             wires: scope.wires + wide.width,
             stores: scope.stores,
+            limits: scope.limits,
         },
     }
 }
@@ -222,13 +225,13 @@ pub(crate) fn input(
 pub(crate) fn store(
     text: &[u8],
     words: &mut [u64],
-    values: &mut [u64; 16],
+    kept: &mut [u64; 24],
     scope: Scope,
     free: usize,
     at: usize,
 ) -> Declared
-    requires { ⌜ Ready (now text) (now words) (now values) at free scope ⌝ }
-    ensures { λ r. ⌜ Declares (now (text .entry)) storeName (now (words .entry)) (now (values .entry)) at free scope r (now (words .exit)) (now (values .exit)) ⌝ }
+    requires { ⌜ Ready (now text) (now words) (now kept) at free scope ⌝ }
+    ensures { λ r. ⌜ Declares (now (text .entry)) storeName (now (words .entry)) (now (kept .entry)) at free scope r (now (words .exit)) (now (kept .exit)) ⌝ }
 {
     let stores = scope.stores;
     let name = new_name(text, words, scope, at, false, 16 <= stores);
@@ -267,7 +270,7 @@ pub(crate) fn store(
             scope,
         };
     }
-    values[stores] = first.value;
+    kept[stores] = first.value;
     write_name(
         words,
         free,
@@ -287,6 +290,7 @@ pub(crate) fn store(
             count: scope.count + 1,
             wires: scope.wires,
             stores: stores + 1,
+            limits: scope.limits,
         },
     }
 }

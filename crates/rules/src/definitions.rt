@@ -11,6 +11,7 @@ use super::literals::more_literals;
 use super::names::DEFINED;
 use super::names::PRODUCTION;
 use super::parts::Part;
+use super::parts::production_of;
 use super::tokens::sign;
 use lexer::EQUALS;
 use lexer::RIGHT_ARROW;
@@ -22,7 +23,7 @@ ghost use Prim.Native.Nat.{ℕ, _+_, _<_, _≤_};
 ghost use lib.ListN.{length};
 ghost use Rattle.lexer.specs.Tokens as token;
 ghost use Rattle.lexer.specs.Tokens.{ruleWords, tokenAt};
-ghost use Rattle.meaning.specs.Expression.{Literal, Exp};
+ghost use Rattle.meaning.specs.Expression.{Literal, Exp, asProduction};
 ghost use Rattle.meaning.specs.Reading.{defineName, statement, inDefine, literal};
 ghost use Rattle.meaning.specs.Names.{aDefine, aProduction, newDefine};
 ghost use Rattle.rules.specs.Cells.{flag, Declared as SomeNames};
@@ -65,7 +66,7 @@ fn begun(text: &[u8], words: &[u64], scope: Scope, at: usize, k: u8) -> Beginnin
 }
 
 // 1 for yes, 0 for no.
-fn flagged(yes: bool) -> usize
+pub(crate) fn flagged(yes: bool) -> usize
     ensures { λ r. ⌜ r ≡ flag yes ⌝ }
 {
     if yes {
@@ -84,7 +85,7 @@ fn write_define(
     q: Condition,
 )
     requires { ⌜ (free + 4 ≤ length (now words)) × (length (now words) ≤ 65535) × (last < 65536) × (place < 65536) × (size < 65536) × ((ls : List Literal) × ConditionIs (now words) free q ls) ⌝ }
-    ensures { λ r. ⌜ CellWritten (now (words .entry)) free 4 last place size (List Literal) (ConditionIs (now (words .entry)) free q) aDefine (now (words .exit)) ⌝ }
+    ensures { λ r. ⌜ CellWritten (now (words .entry)) free free 4 last place size (List Literal) (ConditionIs (now (words .entry)) free q) aDefine (now (words .exit)) ⌝ }
 {
     words[free] = quad(DEFINED, last, place, size);
     words[free + 1] = quad(flagged(q.agrees), q.tests, q.link, q.held);
@@ -102,7 +103,7 @@ fn write_production(
     part: Part,
 )
     requires { ⌜ (free + 3 ≤ length (now words)) × (length (now words) ≤ 65535) × (last < 65536) × (place < 65536) × (size < 65536) × ((e : Exp) × PartIs (now words) free part e) ⌝ }
-    ensures { λ r. ⌜ CellWritten (now (words .entry)) free 3 last place size Exp (PartIs (now (words .entry)) free part) aProduction (now (words .exit)) ⌝ }
+    ensures { λ r. ⌜ CellWritten (now (words .entry)) free free 3 last place size Exp (PartIs (now (words .entry)) free part) aProduction (now (words .exit)) ⌝ }
 {
     words[free] = quad(PRODUCTION, last, place, size);
     words[free + 1] = quad(part.node, 0, 0, 0);
@@ -112,6 +113,25 @@ fn write_production(
         part.impossible,
         part.hollow,
     );
+}
+
+// The same for the production with a number, behind the node that a single letter gets: the cell's index.
+fn write_numbered(
+    words: &mut [u64],
+    free: usize,
+    last: usize,
+    place: usize,
+    size: usize,
+    number: usize,
+    part: Part,
+) -> usize
+    requires { ⌜ (free + 4 ≤ length (now words)) × (length (now words) ≤ 65535) × (last < 65536) × (place < 65536) × (size < 65536) × (number < 65536) × ((e : Exp) × PartIs (now words) free part e) ⌝ }
+    ensures { λ r. ⌜ CellWritten (now (words .entry)) free r 3 last place size Exp (PartIs (now (words .entry)) free part) (λ e. aProduction (asProduction number e)) (now (words .exit)) ⌝ }
+{
+    let made = production_of(words, free, number, part);
+    let part = made.part;
+    write_production(words, made.free, last, place, size, part);
+    made.free
 }
 
 // The literals of a define, up to before `;`.
@@ -176,6 +196,7 @@ pub(crate) fn define(
             count: scope.count + 1,
             wires: scope.wires,
             stores: scope.stores,
+            limits: scope.limits,
         },
     }
 }
@@ -219,16 +240,25 @@ pub(crate) fn production(
         };
     }
     let part = e.part;
-    write_production(words, e.free, scope.last, name.place, name.size, part);
+    let cell = write_numbered(
+        words,
+        e.free,
+        scope.last,
+        name.place,
+        name.size,
+        scope.count,
+        part,
+    );
     Declared {
         fault: 0,
         at: end.at,
-        free: e.free + 3,
+        free: cell + 3,
         scope: Scope {
-            last: e.free,
+            last: cell,
             count: scope.count + 1,
             wires: scope.wires,
             stores: scope.stores,
+            limits: scope.limits,
         },
     }
 }

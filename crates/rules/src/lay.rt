@@ -1,6 +1,10 @@
 // Laying the rows and letters of an expression: from the words that a text is read into to the lists of numbers that a
 // watch's table has (specs/Laying.antt).
 use super::literals::held_at;
+use super::parts::LETTER;
+use super::parts::NAMED;
+use super::parts::STAR;
+use super::parts::is_letter;
 use words::part0;
 use words::part1;
 use words::part2;
@@ -14,12 +18,7 @@ ghost use lib.Seq.{sets};
 ghost use Rattle.meaning.specs.Expression.{Letter, Exp};
 ghost use Rattle.words.specs.Words.{part0, part1, part2};
 ghost use Rattle.rules.specs.Cells.{Link, Links};
-ghost use Rattle.rules.specs.Laying.{rowCode, withRows, linkWord, ones, linkNumber, slotWord, slotNumber, twoSlots, behind, letterLists, withLetters, SlotAt, SomeSlot, LinksAt, SomeLinks, LetterAt, SomeLetter, ExpAt, SomeExp, Stored};
-
-// The kinds of rows that are told apart: a letter, and a star.
-const LETTER: usize = 0;
-
-const STAR: usize = 3;
+ghost use Rattle.rules.specs.Laying.{rowCode, withRows, linkWord, ones, linkNumber, slotWord, slotNumber, twoSlots, behind, letterLists, withLetters, SlotAt, SomeSlot, LinksAt, SomeLinks, LetterAt, SomeLetter, BareAt, ExpAt, SomeExp, Stored};
 
 // ---- links
 
@@ -127,6 +126,18 @@ fn put_links(
 
 // ---- letters and rows
 
+// The node of a letter itself, below those of the productions that it came through.
+fn unnamed(words: &[u64], node: usize) -> usize
+    requires { ⌜ SomeLetter (now words) node ⌝ }
+    ensures { λ r. ⌜ ((c : ℕ) → (x : Letter) → LetterAt (now (words .entry)) c node x → BareAt (now (words .entry)) c r x) ⌝ }
+{
+    let mut at = node;
+    while part0(words[at]) == NAMED {
+        at = part1(words[at]);
+    }
+    at
+}
+
 // Stores the letter at a node.
 fn put_letter(
     words: &[u64],
@@ -143,9 +154,10 @@ fn put_letter(
         → letterLists (now (look .exit)) (now (want .exit)) (now (held .exit)) (now (links .exit)) (now (numbers .exit))
         ≡ withLetters (letterLists (now (look .entry)) (now (want .entry)) (now (held .entry)) (now (links .entry)) (now (numbers .entry))) letter (x ∷ [])) ⌝ }
 {
-    look[letter] = words[node + 1];
-    want[letter] = words[node + 2];
-    let head = words[node];
+    let bare = unnamed(words, node);
+    look[letter] = words[bare + 1];
+    want[letter] = words[bare + 2];
+    let head = words[bare];
     held[letter] = held_at(words, part3(head));
     put_links(words, part1(head), 4 * letter, links, numbers);
     put_links(words, part2(head), 4 * letter + 2, links, numbers);
@@ -188,7 +200,7 @@ pub(crate) fn lay(
 {
     let head = words[node];
     let k = part0(head);
-    if k == LETTER {
+    if is_letter(k) {
         put_letter(words, node, letter, look, want, held, links, numbers);
         put_row(row, LETTER, letter, 0, above, table);
         return Laid {

@@ -1,8 +1,10 @@
 // Opening a rule text (docs/REFERENCE.md, G, N, S and W1). `open` takes every text.
+mod counted;
 mod declarations;
 mod definitions;
 mod expression;
 mod lay;
+mod limits;
 mod literals;
 mod names;
 mod opening;
@@ -11,8 +13,10 @@ mod statements;
 mod tokens;
 mod writes;
 
+use counted::counted_letters;
 use opening::open_monitors;
 use statements::read;
+use windows::windows_of;
 use words::part0;
 ghost use mathlib.Core.Path.{_≡_};
 ghost use mathlib.Core.Bool.{cond};
@@ -23,12 +27,14 @@ ghost use Prim.Native.Nat.{_+_, _*_, _<_, _≤_};
 ghost use Rattle.meaning.specs.Opening.{countsOf, openText};
 ghost use mathlib.Core.List.{[]};
 ghost use Rattle.shape.specs.Walk.{kinds};
-ghost use Rattle.rules.specs.Watches.{noLists, lettersFrom, watchBy, watchOf, shownOutcome};
+ghost use Rattle.rules.specs.Counted.{limitWords};
+ghost use Rattle.rules.specs.Watches.{noLists, noneCounted, noWindows, lettersFrom, watchBy, watchOf, shownOutcome};
 
 // A watch. Each row in one word, and letters, as `lay` has them (specs/Laying.antt); each letter's row; each
 // monitor's own row and first letter; how many rows, letters, monitors, wires and stores there are; the word
 // of the last ok tick, 0 at first; the store values; a mark for each active letter and, from 256 on, for each monitor at its
-// start; how many ticks were ok, at how many of them each letter was met, and whether a tick was bad.
+// start; how many ticks were ok, at how many of them each letter was met, and whether a tick was bad; which limits count
+// each letter; and the windows of the limits (crate `windows`).
 // Between large arrays stands a number: the compiler then copies each array to its place, without a whole watch on the way.
 pub struct Watch {
     pub table: [u64; 1024],
@@ -51,6 +57,8 @@ pub struct Watch {
     pub ticks: u64,
     pub totals: [u32; 256],
     pub stopped: bool,
+    pub counted: [u8; 256],
+    pub windows: [u16; 1056],
 }
 
 // Both counts, or a refusal's number with a byte's place, or with monitor and letter.
@@ -67,7 +75,7 @@ pub struct Start {
 
 // A watch of nothing.
 fn no_watch() -> Watch
-    ensures { λ r. ⌜ r ≡ watchBy noLists 0 0 0 0 [] ⌝ }
+    ensures { λ r. ⌜ r ≡ watchBy noLists 0 0 0 0 [] noneCounted noWindows ⌝ }
 {
     Watch {
         table: [0; 1024],
@@ -90,6 +98,8 @@ fn no_watch() -> Watch
         ticks: 0,
         totals: [0; 256],
         stopped: false,
+        counted: [0; 256],
+        windows: [0; 1056],
     }
 }
 
@@ -138,22 +148,36 @@ fn start_marks(count: usize) -> [u8; 288]
 }
 
 // So many values from the front, and zeros.
-fn first_values(values: &[u64; 16], count: usize) -> [u64; 16]
-    requires { ⌜ (count ≤ 16) × (length (now values) ≡ 16) ⌝ }
-    ensures { λ r. ⌜ r ≡ sets (replicate 16 0) 0 (take count (now (values .entry))) ⌝ }
+fn first_values(kept: &[u64; 24], count: usize) -> [u64; 16]
+    requires { ⌜ (count ≤ 16) × (length (now kept) ≡ 24) ⌝ }
+    ensures { λ r. ⌜ r ≡ sets (replicate 16 0) 0 (take count (now (kept .entry))) ⌝ }
 {
-    let mut kept = [0u64; 16];
+    let mut values = [0u64; 16];
     let mut i: usize = 0;
     while i < count {
-        kept[i] = values[i];
+        values[i] = kept[i];
         i += 1;
     }
-    kept
+    values
+}
+
+// The words of so many limits, which stand behind the stores' values, and zeros.
+fn limit_words(kept: &[u64; 24], count: usize) -> [u64; 8]
+    requires { ⌜ (count ≤ 8) × (length (now kept) ≡ 24) ⌝ }
+    ensures { λ r. ⌜ r ≡ sets (replicate 8 0) 0 (limitWords (now (kept .entry)) count) ⌝ }
+{
+    let mut limits = [0u64; 8];
+    let mut i: usize = 0;
+    while i < count {
+        limits[i] = kept[16 + i];
+        i += 1;
+    }
+    limits
 }
 
 // No watch, and why.
 fn refusal(outcome: Outcome) -> Start
-    ensures { λ r. ⌜ (r .outcome ≡ outcome) × (r .watch ≡ watchBy noLists 0 0 0 0 []) ⌝ }
+    ensures { λ r. ⌜ (r .outcome ≡ outcome) × (r .watch ≡ watchBy noLists 0 0 0 0 [] noneCounted noWindows) ⌝ }
 {
     let watch = no_watch();
     Start { outcome, watch }
@@ -164,9 +188,9 @@ fn open_in(text: &[u8], words: &mut [u64]) -> Start
     requires { ⌜ (length (now text) ≤ 16384) × (3 * length (now text) + 2 ≤ length (now words)) × (length (now words) ≤ 65535) ⌝ }
     ensures { λ r. ⌜ (shownOutcome (r .outcome) ≡ countsOf (openText (now (text .entry)))) × (r .watch ≡ watchOf (openText (now (text .entry)))) × (length (now (words .exit)) ≡ length (now (words .entry))) ⌝ }
 {
-    let mut values = [0u64; 16];
+    let mut kept = [0u64; 24];
     let mut list = [0u16; 32];
-    let r = read(text, words, &mut values, &mut list);
+    let r = read(text, words, &mut kept, &mut list);
     if r.fault != 0 {
         return refusal(Outcome::AtByte(r.fault, r.at));
     }
@@ -194,9 +218,12 @@ fn open_in(text: &[u8], words: &mut [u64]) -> Start
     if o.fault != 0 {
         return refusal(Outcome::AtLetter(o.fault, o.monitor, o.letter));
     }
-    let kept = first_values(&values, r.stores);
+    let values = first_values(&kept, r.stores);
     let marks = start_marks(r.count);
     let places = letter_rows(&table, o.rows);
+    let counted = counted_letters(words, &list, r.count, &kept, r.limits);
+    let limits = limit_words(&kept, r.limits);
+    let windows = windows_of(&limits, r.limits);
     let watch = Watch {
         table,
         look,
@@ -213,11 +240,13 @@ fn open_in(text: &[u8], words: &mut [u64]) -> Start
         wires: r.wires,
         stores: r.stores,
         before: 0,
-        values: kept,
+        values,
         marks,
         ticks: 0,
         totals: [0; 256],
         stopped: false,
+        counted,
+        windows,
     };
     Start {
         outcome: Outcome::Open(o.rows, o.letters),

@@ -13,8 +13,8 @@ ghost use lib.ListN.{length};
 ghost use Rattle.meaning.specs.Expression.{Exp};
 ghost use Rattle.meaning.specs.Shape.{nullable};
 ghost use Rattle.meaning.specs.Summary.{counted, hollowAt};
-ghost use Rattle.rules.specs.Cells.{coded, ProductionAt};
-ghost use Rattle.rules.specs.Parts.{present, Summed, PartIs, OptionIs, Within, SumOf, Later, opOf, Operator, JoinMade, StarMade, LetterMade};
+ghost use Rattle.rules.specs.Cells.{letterKind, coded, ProductionAt};
+ghost use Rattle.rules.specs.Parts.{present, Summed, PartIs, OptionIs, Within, SumOf, Later, opOf, Operator, JoinMade, StarMade, ProductionMade, LetterMade};
 
 // The kinds of nodes.
 pub(crate) const LETTER: usize = 0;
@@ -26,6 +26,9 @@ pub(crate) const CHOICE: usize = 2;
 pub(crate) const STAR: usize = 3;
 
 pub(crate) const PIPE: usize = 4;
+
+// Above a letter's node, for a production that the letter came through.
+pub(crate) const NAMED: usize = 5;
 
 // An expression that was read: its node among the words (0: none), its letters, counted up to 257, whether it is
 // nullable, and the first letter at fault for rules 9 and 10: 0 for none, else 1 more than the letter, counted likewise.
@@ -184,6 +187,35 @@ pub(crate) fn letter_part(words: &mut [u64], free: usize, q: Condition, link: us
             hollow: 0,
         },
     }
+}
+
+// Whether a node of this kind is a letter's, or stands above one.
+pub(crate) fn is_letter(kind: usize) -> bool
+    ensures { λ r. ⌜ r ≡ letterKind kind ⌝ }
+{
+    (kind == LETTER) | (kind == NAMED)
+}
+
+// A part as the expression of the production with a number, which a single letter has come through then.
+pub(crate) fn production_of(words: &mut [u64], free: usize, number: usize, part: Part) -> Made
+    requires { ⌜ (free + 1 ≤ length (now words)) × (length (now words) ≤ 65535) × (number < 65536) × ((e : Exp) × PartIs (now words) free part e) ⌝ }
+    ensures { λ r. ⌜ ProductionMade (now (words .entry)) free number part (now (words .exit)) (r .free) (r .part) ⌝ }
+{
+    let node = part.node;
+    if is_letter(part0(words[node])) {
+        words[free] = quad(NAMED, node, number, 0);
+        return Made {
+            free: free + 1,
+            part: Part {
+                node: free,
+                letters: part.letters,
+                nullable: part.nullable,
+                impossible: part.impossible,
+                hollow: part.hollow,
+            },
+        };
+    }
+    Made { free, part }
 }
 
 // The expression of a production, whose cell is `cell`.

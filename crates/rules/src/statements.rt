@@ -5,12 +5,14 @@ use super::declarations::input;
 use super::declarations::store;
 use super::definitions::define;
 use super::definitions::production;
+use super::limits::limit;
 use super::names::PRODUCTION;
 use super::names::find_kind;
 use super::tokens::DEFINE;
 use super::tokens::END;
 use super::tokens::INPUT;
 use super::tokens::INTERNAL;
+use super::tokens::LIMIT;
 use super::tokens::MONITOR;
 use super::tokens::NAME;
 use super::tokens::Seen;
@@ -141,26 +143,37 @@ pub(crate) fn monitors(
 fn one_statement(
     text: &[u8],
     words: &mut [u64],
-    values: &mut [u64; 16],
+    kept: &mut [u64; 24],
     scope: Scope,
     free: usize,
     at: usize,
     t: Seen,
 ) -> Declared
-    requires { ⌜ Ready (now text) (now words) (now values) at free scope × Sees (now text) at t × (t .kind ≡ 23 → ⊥) ⌝ }
-    ensures { λ r. ⌜ Declares (now (text .entry)) statement (now (words .entry)) (now (values .entry)) at free scope r (now (words .exit)) (now (values .exit)) ⌝ }
+    requires { ⌜ Ready (now text) (now words) (now kept) at free scope × Sees (now text) at t × (t .kind ≡ 23 → ⊥) ⌝ }
+    ensures { λ r. ⌜ Declares (now (text .entry)) statement (now (words .entry)) (now (kept .entry)) at free scope r (now (words .exit)) (now (kept .exit)) ⌝ }
 {
     if t.kind == INPUT {
         return input(text, words, scope, free, t.after);
     }
     if t.kind == INTERNAL {
-        return store(text, words, values, scope, free, t.after);
+        return store(text, words, kept, scope, free, t.after);
     }
     if t.kind == DEFINE {
         return define(text, words, scope, free, t.after);
     }
     if t.kind == NAME {
         return production(text, words, scope, free, at);
+    }
+    if t.kind == LIMIT {
+        if 8 <= scope.limits {
+            return Declared {
+                fault: 7,
+                at: t.place,
+                free,
+                scope,
+            };
+        }
+        return limit(text, words, kept, scope, free, t.after);
     }
     Declared {
         fault: t.fault,
@@ -170,10 +183,11 @@ fn one_statement(
     }
 }
 
-// The declarations of a text, up to behind `monitor`.
-fn statements(text: &[u8], words: &mut [u64], values: &mut [u64; 16]) -> Declared
-    requires { ⌜ (length (now text) ≤ 16384) × (3 * length (now text) + 2 ≤ length (now words)) × (length (now words) ≤ 65535) × (length (now values) ≡ 16) ⌝ }
-    ensures { λ r. ⌜ Stated (now (text .entry)) (now (words .entry)) (now (values .entry)) r (now (words .exit)) (now (values .exit)) ⌝ }
+// The declarations of a text, up to behind `monitor`. Kept are the first values of 16 stores, and then a word for each of 8
+// limits.
+fn statements(text: &[u8], words: &mut [u64], kept: &mut [u64; 24]) -> Declared
+    requires { ⌜ (length (now text) ≤ 16384) × (3 * length (now text) + 2 ≤ length (now words)) × (length (now words) ≤ 65535) × (length (now kept) ≡ 24) ⌝ }
+    ensures { λ r. ⌜ Stated (now (text .entry)) (now (words .entry)) (now (kept .entry)) r (now (words .exit)) (now (kept .exit)) ⌝ }
 {
     let mut d = Declared {
         fault: 0,
@@ -184,6 +198,7 @@ fn statements(text: &[u8], words: &mut [u64], values: &mut [u64; 16]) -> Declare
             count: 0,
             wires: 0,
             stores: 0,
+            limits: 0,
         },
     };
     loop {
@@ -197,7 +212,7 @@ fn statements(text: &[u8], words: &mut [u64], values: &mut [u64; 16]) -> Declare
                 scope,
             };
         }
-        d = one_statement(text, words, values, scope, d.free, d.at, t);
+        d = one_statement(text, words, kept, scope, d.free, d.at, t);
         if d.fault != 0 {
             return d;
         }
@@ -206,13 +221,14 @@ fn statements(text: &[u8], words: &mut [u64], values: &mut [u64; 16]) -> Declare
 
 // ---- a text
 
-// What a text says: how many of the words it takes, its wires, stores and monitors; or a refusal.
+// What a text says: how many of the words it takes, its wires, stores, limits and monitors; or a refusal.
 pub(crate) struct Reading {
     pub(crate) fault: u8,
     pub(crate) at: usize,
     pub(crate) free: usize,
     pub(crate) wires: usize,
     pub(crate) stores: usize,
+    pub(crate) limits: usize,
     pub(crate) count: usize,
 }
 
@@ -220,14 +236,14 @@ pub(crate) struct Reading {
 pub(crate) fn read(
     text: &[u8],
     words: &mut [u64],
-    values: &mut [u64; 16],
+    kept: &mut [u64; 24],
     list: &mut [u16; 32],
 ) -> Reading
-    requires { ⌜ (length (now text) ≤ 16384) × (3 * length (now text) + 2 ≤ length (now words)) × (length (now words) ≤ 65535) × (length (now values) ≡ 16) × (length (now list) ≡ 32) ⌝ }
-    ensures { λ r. ⌜ TextRead (now (text .entry)) (r .fault) (r .at) (r .free) (r .wires) (r .stores) (r .count) (now (words .exit)) (now (values .exit)) (now (list .exit))
-        × (length (now (words .exit)) ≡ length (now (words .entry))) × (length (now (values .exit)) ≡ length (now (values .entry))) × (length (now (list .exit)) ≡ length (now (list .entry))) ⌝ }
+    requires { ⌜ (length (now text) ≤ 16384) × (3 * length (now text) + 2 ≤ length (now words)) × (length (now words) ≤ 65535) × (length (now kept) ≡ 24) × (length (now list) ≡ 32) ⌝ }
+    ensures { λ r. ⌜ TextRead (now (text .entry)) (r .fault) (r .at) (r .free) (r .wires) (r .stores) (r .limits) (r .count) (now (words .exit)) (now (kept .exit)) (now (list .exit))
+        × (length (now (words .exit)) ≡ length (now (words .entry))) × (length (now (kept .exit)) ≡ length (now (kept .entry))) × (length (now (list .exit)) ≡ length (now (list .entry))) ⌝ }
 {
-    let d = statements(text, words, values);
+    let d = statements(text, words, kept);
     let scope = d.scope;
     if d.fault != 0 {
         return Reading {
@@ -236,6 +252,7 @@ pub(crate) fn read(
             free: d.free,
             wires: 0,
             stores: 0,
+            limits: 0,
             count: 0,
         };
     }
@@ -246,6 +263,7 @@ pub(crate) fn read(
         free: d.free,
         wires: scope.wires,
         stores: scope.stores,
+        limits: scope.limits,
         count: m.count,
     }
 }

@@ -8,8 +8,9 @@ use lexer::token_at;
 ghost use mathlib.Core.Path.{_≡_};
 ghost use mathlib.Core.List.{[]};
 ghost use Rattle.lexer.specs.Shown.{wordShown, kindShown};
+ghost use Rattle.lexer.specs.Tokens as token;
 ghost use Prim.Native.Nat.{_<_};
-ghost use Rattle.meaning.specs.Reading.{numberOf, sign, nought, toZero};
+ghost use Rattle.meaning.specs.Reading.{numberOf, sign, keyword, nought, toZero};
 ghost use Rattle.rules.specs.Seen.{Sees, wordKind, kindOf, valueOf};
 ghost use Rattle.rules.specs.Reads.{Behind, NumberRead};
 
@@ -28,9 +29,15 @@ pub(crate) const MONITOR: u8 = 23;
 
 pub(crate) const PAST: u8 = 24;
 
-pub(crate) const END: u8 = 25;
+pub(crate) const LIMIT: u8 = 25;
 
-const KNOT: u8 = 26;
+pub(crate) const TO: u8 = 26;
+
+pub(crate) const IN: u8 = 27;
+
+pub(crate) const END: u8 = 28;
+
+const KNOT: u8 = 29;
 
 pub(crate) struct Seen {
     pub(crate) kind: u8,
@@ -50,6 +57,9 @@ fn word_kind(w: Word) -> u8
         Word::Define => DEFINE,
         Word::Monitor => MONITOR,
         Word::Past => PAST,
+        Word::Limit => LIMIT,
+        Word::To => TO,
+        Word::In => IN,
     }
 }
 
@@ -120,6 +130,23 @@ pub(crate) fn sign(text: &[u8], at: usize, k: u8) -> Next
 {
     let t = see(text, at);
     if t.kind == k {
+        return Next {
+            fault: 0,
+            at: t.after,
+        };
+    }
+    Next {
+        fault: t.fault,
+        at: t.place,
+    }
+}
+
+// Behind a reserved word that must stand here, which has this kind.
+pub(crate) fn keyword(text: &[u8], at: usize, kind: u8) -> Next
+    ensures { λ r. ⌜ ((w : token.Word) → kind ≡ wordKind w → Behind (now (text .entry)) at (r .fault) (r .at) (keyword w)) ⌝ }
+{
+    let t = see(text, at);
+    if t.kind == kind {
         return Next {
             fault: 0,
             at: t.after,

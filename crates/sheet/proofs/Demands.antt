@@ -62,6 +62,14 @@ use Rattle.rules.proofs.open.Statement as open-text
 use Rattle.rules.proofs.open.Met as open-text-met
 use Rattle.counts.proofs.counts_of.Statement as counts-of
 use Rattle.counts.proofs.counts_of.Met as counts-of-met
+use Rattle.windows.proofs.windows_of.Statement as windows-of
+use Rattle.windows.proofs.windows_of.Met as windows-of-met
+use Rattle.windows.proofs.met_mask.Statement as met-mask
+use Rattle.windows.proofs.met_mask.Met as met-mask-met
+use Rattle.windows.proofs.first_beyond.Statement as first-beyond
+use Rattle.windows.proofs.first_beyond.Met as first-beyond-met
+use Rattle.windows.proofs.pass.Statement as pass-tick
+use Rattle.windows.proofs.pass.Met as pass-tick-met
 use Rattle.monitor.specs.Calls.{replyOf, watchAfter, repliesOf, answersOf, watchAfterAll, visitsOn, totalsOf, Held}
 use Rattle.monitor.proofs.Program as program
 use Rattle.monitor.proofs.Calls as calls
@@ -138,7 +146,7 @@ finish-entry = finish-met.met
 pub totals-entry : {M : Type 1} → totals-of.statement M
 totals-entry = totals-of-met.met
 
--- what a look and a take do on lent tables with a word that is not refused, whether that ended at a monitor that does not go on, a watch's tables, and 16, 17, 15
+-- what a look and a take do on lent tables with a word that is not refused, whether that was answered as bad, a watch's tables, and 16, 17, 15
 pub peek-entry : {M : Type 1} → peek.statement M
 peek-entry = peek-met.met
 
@@ -157,6 +165,19 @@ counts-of-entry = counts-of-met.met
 
 pub touched-entry : {M : Type 1} → touched-by.statement M
 touched-entry = touched-by-met.met
+
+-- the windows of limits: at opening, which limits a tick counts for, the lowest that it is beyond, and with that tick
+pub windows-of-entry : {M : Type 1} → windows-of.statement M
+windows-of-entry = windows-of-met.met
+
+pub met-mask-entry : {M : Type 1} → met-mask.statement M
+met-mask-entry = met-mask-met.met
+
+pub first-beyond-entry : {M : Type 1} → first-beyond.statement M
+first-beyond-entry = first-beyond-met.met
+
+pub pass-entry : {M : Type 1} → pass-tick.statement M
+pass-entry = pass-tick-met.met
 
 -- how often each letter was met, after a good tick; and where the letters of a monitor end
 pub count-met-entry : {M : Type 1} → count-met.statement M
@@ -248,7 +269,7 @@ no-two-alike = traces.read-unique
 -- For every accepted text and every list of looks and takes from its opening on, there is an answer to each call, and it is the right one for that call's word and the takes
 -- before it: the reply, and of a take the number of rows that it touched.
 pub calls-rightly : (text : List ℕ) (o : Opened) → openText text ≡ value o → (cs : List Call)
-    → (length (answersOf (watchOf (value o)) cs) ≡ length cs) × AllAnswered (o .monitors) (o .initial) (o .wires) cs (answersOf (watchOf (value o)) cs)
+    → (length (answersOf (watchOf (value o)) cs) ≡ length cs) × AllAnswered (o .limits) (o .monitors) (o .initial) (o .wires) cs (answersOf (watchOf (value o)) cs)
 calls-rightly text o e cs = (touched-rows.answers-long (watchOf (value o)) cs, touched-rows.all-answered text o e cs)
 
 -- Without those numbers the answers are the replies that what follows speaks of.
@@ -261,26 +282,26 @@ touched-most = touched-rows.few-touched
 
 -- After any calls, the walk of a tick with any word makes at most three times as many calls, each of which visits a row, as the tick touches rows.
 pub visits-few : (text : List ℕ) (o : Opened) → openText text ≡ value o → (cs : List Call) (w : ℕ)
-    → visitsOn (watchAfterAll (watchOf (value o)) cs) w ≤ 3 * touched (o .monitors) (standing (o .monitors) (o .initial) (o .wires) cs .inner .ticks)
+    → visitsOn (watchAfterAll (watchOf (value o)) cs) w ≤ 3 * touched (o .monitors) (standing (o .limits) (o .monitors) (o .initial) (o .wires) cs .inner .ticks)
 visits-few = visited.visits-few
 
--- And the watch then has the tick count, the stop, the word before, the store values and how often each letter was met that the meaning fixes; all else of it but the marks is as
--- opening gave it.
+-- And the watch then has the tick count, the stop, the word before, the store values and how often each letter was met that the meaning fixes; all else of it but the marks and the
+-- windows of limits is as opening gave it.
 pub watch-held : (text : List ℕ) (o : Opened) → openText text ≡ value o → (cs : List Call)
-    → Held (o .monitors) (watchOf (value o)) (watchAfterAll (watchOf (value o)) cs) (standing (o .monitors) (o .initial) (o .wires) cs)
+    → Held (o .monitors) (watchOf (value o)) (watchAfterAll (watchOf (value o)) cs) (standing (o .limits) (o .monitors) (o .initial) (o .wires) cs)
 watch-held = calls.watch-held
 
 -- Monitor by monitor, what the watch counted, which is printed at the foot of the sheet, is how often each letter was met over the words of the ok takes.
 pub totals-right : (text : List ℕ) (o : Opened) → openText text ≡ value o → (cs : List Call)
-    → totalsOf (watchAfterAll (watchOf (value o)) cs) ≡ totals (o .monitors) (standing (o .monitors) (o .initial) (o .wires) cs .inner .ticks)
+    → totalsOf (watchAfterAll (watchOf (value o)) cs) ≡ totals (o .monitors) (standing (o .limits) (o .monitors) (o .initial) (o .wires) cs .inner .ticks)
 totals-right = calls.totals-right
 
 -- The sum of these numbers over all letters is the sum over the ticks of how many letters are met there.
 pub sum-over-ticks : (ms : List Exp) (ts : List Tick) → sum (totals ms ts) ≡ metOver ms [] ts
 sum-over-ticks = totals-laws.sum-over-ticks
 
--- A reply is judged by `Fit`, and that by F17: words fit a monitor exactly if some branch, of all that F6 to F13 allow, has at no tick two letters of one thread, a letter counted as
--- often as it stands there.
+-- A reply is judged by `Fit` and, beside it, by `Limits`; and `Fit` by F17: words fit a monitor exactly if some branch, of all that F6 to F13 allow, has at no tick two letters of
+-- one thread, a letter counted as often as it stands there.
 pub fits-exactly : (m : Exp) (ts : List Tick)
     → (_≡_ {A = Bool} (fits m ts) true) ↔ ((r : Run) × (r ∈ branches m ts) × ((f : Exp) → f ∈ threads m → (k : ℕ) → required f (getD r k []) ≤ 1))
 fits-exactly = requires.fits-exactly

@@ -16,7 +16,9 @@ use Rattle.meaning.specs.Lists.{total, count, member}
 use Rattle.meaning.specs.Expression.{Letter, Exp, letters, size}
 use Rattle.meaning.specs.Answers.{Answer, value, refused}
 use Rattle.meaning.specs.Opening.{Opened, counts, countsOf, openText}
-use Rattle.meaning.specs.Fit.{Verdict, Tick, History, start, tick, verdict, judged, onward, fits}
+use Rattle.meaning.specs.Names.{Limit}
+use Rattle.meaning.specs.Fit.{Verdict, Tick, History, start, tick, verdict, onward, fits}
+use Rattle.meaning.specs.Limits.{keeps, limitsVerdict, orElse, judged}
 use Rattle.meaning.specs.Fit as fit
 use Rattle.meaning.specs.Calls as calls
 use Rattle.meaning.specs.Calls.{Reply, ok, bad, State, opening, reply, after, isFull, isStray, mostTicks}
@@ -24,6 +26,7 @@ use Rattle.meaning.specs.Sheet.{decimal, hexadecimal, line, refusalLine, placeN
 use Rattle.meaning.specs.Totals.{metFrom, totals, sum}
 use Rattle.meaning.proofs.Totals.{times-few}
 use Rattle.rules.specs.Watches.{watchOf}
+use Rattle.rules.proofs.Limited.{limits-few}
 use Rattle.rules.proofs.Placing.{letters-long}
 use Rattle.monitor.proofs.Program.{Counted, text-counted}
 use Rattle.sheet.specs.Lines.{okLine, badLine}
@@ -122,33 +125,45 @@ of-cond : {A : Type 0} (P : A → Type 0) (b : Bool) (x y : A) → (b ≡ true �
 of-cond P true x y p q = p refl
 of-cond P false x y p q = q refl
 
--- a bad monitor is one of them
-abbrev Blames : (most : ℕ) → Verdict → Type 0
-Blames n fit.ok = Unit {0}
-Blames n (fit.bad m) = m < n
+-- the number that a bad tick is answered with: monitors and limits have one below 40
+abbrev Blames : Verdict → Type 0
+Blames fit.ok = Unit {0}
+Blames (fit.bad m) = m < 40
 
-blames : (i : ℕ) (ms : List Exp) (ts : List Tick) (n : ℕ) → i + length ms ≤ n → Blames n (verdict i ms ts)
+blames : (i : ℕ) (ms : List Exp) (ts : List Tick) → i + length ms ≤ 32 → Blames (verdict i ms ts)
 unfolding verdict
-blames i [] ts n h = tt
-blames i (m ∷ ms) ts n h =
-    let next = blames (suc i) ms ts n (omega (arith, h)) in
-    of-cond (Blames n) (fits m ts) (verdict (suc i) ms ts) (fit.bad i) (λ e. next) (λ e. omega (arith, h))
+blames i [] ts h = tt
+blames i (m ∷ ms) ts h =
+    let next = blames (suc i) ms ts (omega (arith, h)) in
+    of-cond Blames (fits m ts) (verdict (suc i) ms ts) (fit.bad i) (λ e. next) (λ e. omega (arith, h))
 
-abbrev Small : (oks monitors : ℕ) → Reply → Type 0
-Small oks n ok = oks < mostTicks
-Small oks n (bad m) = m < n
-Small oks n (calls.refused k p) = k < 18
+limits-blame : (i : ℕ) (ls : List Limit) (ms : List Exp) (ts : List Tick) → i + length ls ≤ 8 → Blames (limitsVerdict i ls ms ts)
+unfolding limitsVerdict
+limits-blame i [] ms ts h = tt
+limits-blame i (l ∷ ls) ms ts h =
+    let next = limits-blame (suc i) ls ms ts (omega (arith, h)) in
+    of-cond Blames (keeps l ms ts) (limitsVerdict (suc i) ls ms ts) (fit.bad (32 + i)) (λ e. next) (λ e. omega (arith, h))
 
-reply-small : (ms : List Exp) (wires : ℕ) (s : State History) (w : ℕ) → Small (s .oks) (length ms) (reply (judged ms) wires s w)
+else-blames : (u v : Verdict) → Blames u → Blames v → Blames (orElse u v)
+else-blames fit.ok v a b = b
+else-blames (fit.bad m) v a b = a
+
+abbrev Small : (oks : ℕ) → Reply → Type 0
+Small oks ok = oks < mostTicks
+Small oks (bad m) = m < 40
+Small oks (calls.refused k p) = k < 18
+
+reply-small : (ls : List Limit) (ms : List Exp) (wires : ℕ) → length ls ≤ 8 → length ms ≤ 32 → (s : State History) (w : ℕ) → Small (s .oks) (reply (judged ls ms) wires s w)
 unfolding reply
-reply-small ms wires s w =
-    let P : Reply → Type 0 = Small (s .oks) (length ms) in
+reply-small ls ms wires few-limits few-monitors s w =
+    let P : Reply → Type 0 = Small (s .oks) in
     of-cond P (s .stopped) _ _ (λ e. omega arith) (λ e.
     of-cond P (isFull (s .oks)) _ _ (λ f. omega arith) (λ f.
     of-cond P (isStray wires w) _ _ (λ g. omega arith) (λ g.
-    by (judged ms (s .inner) w) (blames 0 ms _ (length ms) (omega arith)) (leb-false mostTicks (s .oks) f))))
+    by (judged ls ms (s .inner) w)
+    (else-blames (verdict 0 ms _) (limitsVerdict 0 ls ms _) (blames 0 ms _ (omega (arith, few-monitors))) (limits-blame 0 ls ms _ (omega (arith, few-limits)))) (leb-false mostTicks (s .oks) f))))
   where
-    by : (v : Verdict) → Blames (length ms) v → s .oks < mostTicks → Small (s .oks) (length ms) (calls.replyOf v)
+    by : (v : Verdict) → Blames v → s .oks < mostTicks → Small (s .oks) (calls.replyOf v)
     by fit.ok b l = l
     by (fit.bad m) b l = b
 
@@ -169,7 +184,7 @@ turned (map ∷ given) before = by (ltb (length given) (wire.count 8 map)) (idle
 
 -- ---- the lines of the ticks
 
-module _ (o : Opened) (c : Counted o) where
+module _ (o : Opened) (c : Counted o) (few-limits : length (o .limits) ≤ 8) where
   abbrev footAt : State History → List ℕ
   footAt s = foot (totals (o .monitors) (s .inner .ticks))
 
@@ -193,8 +208,8 @@ module _ (o : Opened) (c : Counted o) where
     abbrev Here : Type 0
     Here = Within (tickLines (suc k) o s (s .oks) rest before) (min (length rest) (mostTicks - s .oks))
 
-    on-reply : (w n : ℕ) → readRecord rest before ≡ trace.value (word w n) → (r : Reply) → reply (judged (o .monitors)) (o .wires) s w ≡ r
-        → Small (s .oks) (length (o .monitors)) r → Here
+    on-reply : (w n : ℕ) → readRecord rest before ≡ trace.value (word w n) → (r : Reply) → reply (judged (o .limits) (o .monitors)) (o .wires) s w ≡ r → Small (s .oks) r
+        → Here
     unfolding tickLines onward
     on-reply w n e ok f small =
         let p = word-length rest before w n e in
@@ -211,14 +226,14 @@ module _ (o : Opened) (c : Counted o) where
     on-reply w n e (bad m) f small = rw (e, f) (omega (
       arith,
       length-append (badLine (s .oks) w m) (footAt s),
-      bad-short (s .oks) w (omega (arith, h)) m (omega (arith, small, c .few-monitors)),
+      bad-short (s .oks) w (omega (arith, h)) m (omega (arith, small)),
       at-foot s h l,
     ))
     on-reply w n e (calls.refused m p) f small = rw (e, f) (omega (arith, refused-short m (s .oks) (omega (arith, small)) (omega (arith, h))))
 
     on-read : (r : trace.Answer Item) → readRecord rest before ≡ r → Turned r → Here
     unfolding tickLines
-    on-read (trace.value (word w n)) e small = on-reply w n e (reply (judged (o .monitors)) (o .wires) s w) refl (reply-small (o .monitors) (o .wires) s w)
+    on-read (trace.value (word w n)) e small = on-reply w n e (reply (judged (o .limits) (o .monitors)) (o .wires) s w) refl (reply-small (o .limits) (o .monitors) (o .wires) few-limits (c .few-monitors) s w)
     on-read (trace.value end) e small = rw e (clean-foot s (min (length rest) (mostTicks - s .oks)) h l)
     on-read (trace.refused number place) e small = rw e (omega (arith, refused-short number (s .oks) (omega (arith, small)) (omega (arith, h))))
 
@@ -243,7 +258,7 @@ sheet-short text records first = by (openText text) refl first
           arith,
           h,
           length-append (countsLine (counts o)) (tickLines (length records) o (opening (start (o .initial))) 0 records 0),
-          ticks-short o c (length records) (opening (start (o .initial))) records 0 (omega arith) refl,
+          ticks-short o c (limits-few text o e) (length records) (opening (start (o .initial))) records 0 (omega arith) refl,
           c .few-letters,
         ))
     by (refused number place) e h = rw e (omega (arith, h, length-append (refusalLine number (placeNumbers place)) []))

@@ -15,7 +15,8 @@ use Rattle.trace.proofs.Traces.{word-length}
 use Rattle.trace.proofs.Clash.{clash}
 use Rattle.meaning.specs.Answers.{Answer, value, refused}
 use Rattle.meaning.specs.Opening.{Opened, counts, countsOf, openText}
-use Rattle.meaning.specs.Fit.{History, start, judged, onward}
+use Rattle.meaning.specs.Fit.{History, start, onward}
+use Rattle.meaning.specs.Limits.{judged}
 use Rattle.meaning.specs.Calls as calls
 use Rattle.meaning.specs.Calls.{Call, take, Reply, ok, bad, State, opening, reply, after, repliesFrom, stateFrom}
 use Rattle.meaning.specs.Totals.{totals}
@@ -35,11 +36,11 @@ module _ (o : Opened) where
   -- from here on every list of calls gets the meaning's replies, and leaves the letters counted as often as they were met
   abbrev Agree : Watch → State History → Type 0
   Agree v s = (cs : List Call)
-      → (repliesOf v cs ≡ repliesFrom (judged (o .monitors)) (onward (o .monitors)) (o .wires) s cs)
-      × (totalsOf (watchAfterAll v cs) ≡ totals (o .monitors) (stateFrom (judged (o .monitors)) (onward (o .monitors)) (o .wires) s cs .inner .ticks))
+      → (repliesOf v cs ≡ repliesFrom (judged (o .limits) (o .monitors)) (onward (o .monitors)) (o .wires) s cs)
+      × (totalsOf (watchAfterAll v cs) ≡ totals (o .monitors) (stateFrom (judged (o .limits) (o .monitors)) (onward (o .monitors)) (o .wires) s cs .inner .ticks))
 
   abbrev replied : State History → ℕ → Reply
-  replied s w = reply (judged (o .monitors)) (o .wires) s w
+  replied s w = reply (judged (o .limits) (o .monitors)) (o .wires) s w
 
   agree-reply : (v : Watch) (s : State History) → Agree v s → (w : ℕ) (r : Reply) → replyOf v w ≡ r → replied s w ≡ r
   unfolding repliesOf repliesFrom

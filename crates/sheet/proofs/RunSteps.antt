@@ -1,10 +1,10 @@
 -- A run over records, by the code's loop and branches. Assumes nothing.
 use mathlib.Core.Path.{_≡_, refl, sym, _∙_, ap, ap₂, subst}
-use mathlib.Core.Bool.{Bool, true, false, cond}
+use mathlib.Core.Bool.{Bool, true, false}
 use mathlib.Core.List.{List, [], _∷_, _++_, append-assoc}
 use Prim.Native.Nat.{ℕ, zero, suc, _+_, _-_, _*_, _<_, _≤_, min}
 use native.Mathlib.Omega.{arith}
-use borrow.Author.Tests.{eq-eqb, ne-eqb, ltb-true, ltb-false}
+use borrow.Author.Tests.{eq-eqb, ne-eqb}
 use lib.Dec.{ltb}
 use lib.ListN.{length, take, drop, length-drop, length-append}
 use lib.Seq.{sets, drop-drop, length-sets}
@@ -18,10 +18,11 @@ use Rattle.meaning.specs.Calls as calls
 use Rattle.meaning.specs.Sheet.{refusalLine}
 use Rattle.rules.specs.declared.Watch.{Watch}
 use Rattle.rules.proofs.Overlay.{sets-behind}
-use Rattle.monitor.specs.Calls.{stateOf, withState, tablesOf, givenOf, layoutOf, stepFrom, refusedBy, replyOf, watchAfter}
-use Rattle.monitor.specs.Letters.{Given, given}
-use Rattle.monitor.specs.Ticks.{Layout, within, Reached, Move, move, moveBy, marksAfter, writeMarked, writers, countMet, monitorsGo, emptyMemory, shutBusy, stepWithin, stepOf, stuckAt}
-use Rattle.monitor.proofs.TickSteps.{lent-step, take-refused, take-bad, take-ok, few-ticks, one-tick}
+use Rattle.monitor.specs.Calls.{stateOf, withState, tablesOf, layoutOf, refusedBy, replyOf, watchAfter}
+use Rattle.monitor.specs.Letters.{given}
+use Rattle.monitor.specs.Ticks.{countMet}
+use Rattle.monitor.specs.Limited.{isBad, Stepped, stepped, tickOf}
+use Rattle.monitor.proofs.TickSteps.{tickFrom, lent-step, tick-kept, tickedTo, take-refused, take-bad, take-ok, few-ticks, one-tick}
 use Rattle.sheet.specs.Lines.{Run, run, Ran, ran, printing, onReply, onRead, okLine, badLine, footOf, runOn, runOver}
 use Rattle.sheet.specs.Items.{itemOf}
 use Rattle.sheet.specs.declared.ticking.Item.{Item as CodeItem}
@@ -96,27 +97,6 @@ read-refused (refused k p) s rest f e z = rw (ne-eqb k 13 e)
 printing-twice : (p q : List ℕ) (x : Ran) → printing p (printing q x) ≡ printing (p ++ q) x
 printing-twice p q x = ap (λ (l : List ℕ). ran l (x .after) (x .left) (x .ended)) (sym (append-assoc p q (x .printed)))
 
--- ---- a step
-
--- a step that ends at a bad monitor leaves marks and store values as they were
-bad-keeps : (g : Given) (y : Layout) (marks : List ℕ) (i : ℕ) (K σ : List ℕ) → move i K σ ≡ stepOf g y marks → i < within y .monitors → move i K σ ≡ move i marks (g .values)
-unfolding stepWithin
-bad-keeps g y marks i K σ e h = by (monitorsGo g (within y) marks (within y .monitors) 0 (shutBusy g marks (within y .letters) emptyMemory)) e
-  where
-    by : (a : Reached) → move i K σ ≡ moveBy g (within y) marks a → move i K σ ≡ move i marks (g .values)
-    by a e = cases (ltb (a .monitor) (within y .monitors)) refl e
-      where
-        next : List ℕ
-        next = marksAfter 256 (a .memory)
-
-        other : Move
-        other = move (a .monitor) next (writeMarked g next (writers g (within y .letters)) 0 (g .values))
-
-        cases : (b : Bool) → ltb (a .monitor) (within y .monitors) ≡ b → move i K σ ≡ cond b (move (a .monitor) marks (g .values)) other
-            → move i K σ ≡ move i marks (g .values)
-        cases true f e = e ∙ ap (λ (j : ℕ). move j marks (g .values)) (sym (ap (λ (x : Move). x .monitor) e))
-        cases false f e = absurd (omega (arith, h, ltb-false (a .monitor) (within y .monitors) f, ap (λ (x : Move). x .monitor) e))
-
 -- ---- the loop
 
 -- What was printed so far, and what is to come: no line is longer than 64 bytes, and each is a tick's.
@@ -129,10 +109,6 @@ pub record Going (v₀ : Watch) (b₀ : ℕ) (records out₀ : List ℕ) (at : �
   pub slow : place ≤ at + 64 * v .ticks
   pub few : place ≤ 64000128
   pub early : at ≤ 128
-
--- the watch with what moved
-abbrev pub moved : Watch → (marks values : List ℕ) → (last : ℕ) → (totals : List ℕ) → (ticks : ℕ) → Watch
-moved v K σ b N n = withState v (record { inner = record { marks = K; values = σ; last = b; totals = N }; oks = n; stopped = v .stopped })
 
 pub going-none : (v : Watch) (b : ℕ) (records out : List ℕ) (at : ℕ) → at ≤ 128 → Going v b records out at out v b 0 at
 going-none v b records out at h =
@@ -239,20 +215,23 @@ module _ {v₀ : Watch} {b₀ : ℕ} {records out₀ : List ℕ} {at : ℕ} {out
         pub going-few : k ≡ 0 → v .ticks < 1000000
         going-few q = few-ticks v w k d q
 
-        module _ (q : k ≡ 0) (t : List (List ℕ)) (lent : t ≡ tablesOf v) (i : ℕ) (K σ : List ℕ) (stepped : move i K σ ≡ stepOf (given t (v .values) (w ∷ v .before ∷ [])) (layoutOf v) (v .marks))
-            (b : Bool) (f : b ≡ stuckAt i (v .monitors)) where
-          s : move i K σ ≡ stepFrom v (stateOf v .inner) w
-          s = lent-step v (stateOf v .inner) w t (move i K σ) lent stepped
+        module _ (q : k ≡ 0) (t : List (List ℕ)) (lent : t ≡ tablesOf v) (i : ℕ) (K σ W : List ℕ)
+            (ticked : stepped i K σ W ≡ tickOf (given t (v .values) (w ∷ v .before ∷ [])) (layoutOf v) (v .marks) (v .counted) (v .windows)) (b : Bool) (f : b ≡ isBad i) where
+          s : stepped i K σ W ≡ tickFrom v (stateOf v .inner) w
+          s = lent-step v (stateOf v .inner) w t (stepped i K σ W) lent ticked
+
+          -- the watch that a bad tick stops
+          abbrev halted : (marks values windows : List ℕ) → Watch
+          halted M ρ U = withState v (record { inner = record { marks = M; values = ρ; last = v .before; totals = v .totals; windows = U }; oks = v .ticks; stopped = true })
 
           -- the line of a bad tick, and the foot behind it
           pub going-bad : b ≡ true → (mid : List ℕ) (behind : ℕ) → mid ≡ sets out place (badLine (v .ticks) w i) → behind ≡ place + length (badLine (v .ticks) w i) → length (badLine (v .ticks) w i) ≤ 64
               → (new : List ℕ) (stop : ℕ) → new ≡ sets mid behind (footOf v) → stop ≡ behind + length (footOf v) → stop ≤ behind + 196672
-              → Left (runOver (run v₀ b₀) records) records out₀ at new (run (withState v (record { inner = record { marks = K; values = σ; last = v .before; totals = v .totals }; oks = v .ticks; stopped = true })) last) used stop true
+              → Left (runOver (run v₀ b₀) records) records out₀ at new (run (halted K σ W) last) used stop true
           going-bad y mid behind g x short new stop e r bound =
-              let u = withState v (record { inner = record { marks = K; values = σ; last = v .before; totals = v .totals }; oks = v .ticks; stopped = true }) in
-              let h = ltb-true i (min (v .monitors) 32) (sym f ∙ y) in
-              let t = ap (λ (x : Move). withState v (record { inner = record { marks = x .marks; values = x .values; last = v .before; totals = v .totals }; oks = v .ticks; stopped = true })) (bad-keeps (givenOf v (v .values) (w ∷ v .before ∷ [])) (layoutOf v) (v .marks) i K σ s h) in
-              let c = take-bad v w k d q i K σ s b f u y t in
+              let u = halted K σ W in
+              let t = ap (λ (x : Stepped). halted (x .marks) (x .values) (x .windows)) (tick-kept v (stateOf v .inner) w i K σ W s b f y) in
+              let c = take-bad v w k d q i K σ W s b f u y t in
               let line = badLine (v .ticks) w i in
               let l = length-append line (footOf v) in
               going-left (line ++ footOf v) (run u last) true new stop
@@ -261,12 +240,12 @@ module _ {v₀ : Watch} {b₀ : ℕ} {records out₀ : List ℕ} {at : ℕ} {out
               (e ∙ ap (λ (z : List ℕ). sets z behind (footOf v)) g ∙ sets-behind out place behind line (footOf v) (line ++ footOf v) x refl) (omega (arith, r, x, l)) (omega (arith, x, bound, short))
 
           abbrev next : List ℕ → Watch
-          next N = withState v (record { inner = record { marks = K; values = σ; last = w; totals = N }; oks = v .ticks + 1; stopped = v .stopped })
+          next N = tickedTo v K σ N W w (v .ticks + 1)
 
           pub going-ok : b ≡ false → (N : List ℕ) → N ≡ countMet K (min (v .letters) 256) (v .totals) → (new : List ℕ) (stop : ℕ) → new ≡ sets out place (okLine (v .ticks) w) → stop ≡ place + length (okLine (v .ticks) w)
               → length (okLine (v .ticks) w) ≤ 64 → Going v₀ b₀ records out₀ at new (next N) w (used + n) stop
           going-ok y N counted new stop g h l =
-              let c = take-ok v w k d q i K σ s b f (next N) y N counted (one-tick v K σ N w) in
+              let c = take-ok v w k d q i K σ W s b f (next N) y N counted (one-tick v K σ N W w) in
               let t = few-ticks v w k d q in
               let a = length-append (m .done) (okLine (v .ticks) w) in
               record {

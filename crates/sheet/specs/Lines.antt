@@ -20,8 +20,8 @@ use Rattle.monitor.specs.Calls.{replyOf, watchAfter, totalsOf}
 abbrev pub okLine : (t w : ℕ) → List ℕ
 okLine t w = line (decimal t ∷ hexadecimal 16 w ∷ bytes "ok" ∷ [])
 
--- P4: "`T W bad M` with the monitor"
-abbrev pub badLine : (t w monitor : ℕ) → List ℕ
+-- P4: "`T W bad M` with the number that W6 names"
+abbrev pub badLine : (t w number : ℕ) → List ℕ
 badLine t w m = line (decimal t ∷ hexadecimal 16 w ∷ bytes "bad" ∷ decimal m ∷ [])
 
 -- the number and the word of a tick, in front of its verdict

@@ -75,6 +75,7 @@ fn leave(
     values: [u64; 16],
     past: u64,
     totals: [u32; 256],
+    windows: [u16; 1056],
     ticks: u64,
     stopped: bool,
     before: u64,
@@ -82,13 +83,14 @@ fn leave(
     at: usize,
     ended: bool,
 ) -> Ran
-    ensures { λ r. ⌜ r ≡ record { watch = withState watch (record { inner = record { marks = marks; values = values; last = past; totals = totals }; oks = ticks; stopped = stopped }); before = before; used = used; at = at; ended = ended } ⌝ }
+    ensures { λ r. ⌜ r ≡ record { watch = withState watch (record { inner = record { marks = marks; values = values; last = past; totals = totals; windows = windows }; oks = ticks; stopped = stopped }); before = before; used = used; at = at; ended = ended } ⌝ }
 {
     let mut now = watch;
     now.marks = marks;
     now.values = values;
     now.before = past;
     now.totals = totals;
+    now.windows = windows;
     now.ticks = ticks;
     now.stopped = stopped;
     Ran {
@@ -119,6 +121,7 @@ pub(crate) fn run_from(watch: Watch, before: u64, records: &[u8], out: &mut [u8]
     let mut values = watch.values;
     let mut past = watch.before;
     let mut totals = watch.totals;
+    let mut windows = watch.windows;
     let mut ticks = watch.ticks;
     let mut last = before;
     let mut used: usize = 0;
@@ -132,6 +135,7 @@ pub(crate) fn run_from(watch: Watch, before: u64, records: &[u8], out: &mut [u8]
                 values,
                 past,
                 totals,
+                windows,
                 ticks,
                 watch.stopped,
                 last,
@@ -148,6 +152,7 @@ pub(crate) fn run_from(watch: Watch, before: u64, records: &[u8], out: &mut [u8]
                 values,
                 past,
                 totals,
+                windows,
                 ticks,
                 watch.stopped,
                 last,
@@ -166,6 +171,7 @@ pub(crate) fn run_from(watch: Watch, before: u64, records: &[u8], out: &mut [u8]
                 values,
                 past,
                 totals,
+                windows,
                 ticks,
                 watch.stopped,
                 last,
@@ -174,23 +180,25 @@ pub(crate) fn run_from(watch: Watch, before: u64, records: &[u8], out: &mut [u8]
                 true,
             );
         }
-        let monitor = step(
+        let answer = step(
             &tables,
             &watch.places,
             &watch.own,
             &watch.firsts,
             watch.monitors,
             watch.letters,
+            &watch.counted,
             &mut marks,
             &mut values,
+            &mut windows,
             past,
             word,
         );
-        if is_bad(monitor, watch.monitors) {
+        if is_bad(answer) {
             let line_end = put_bad(
                 ticks,
                 word,
-                monitor as u64,
+                answer as u64,
                 &digits,
                 &mut line,
                 from,
@@ -211,6 +219,7 @@ pub(crate) fn run_from(watch: Watch, before: u64, records: &[u8], out: &mut [u8]
                 values,
                 past,
                 totals,
+                windows,
                 ticks,
                 true,
                 last,

@@ -39,7 +39,7 @@ fn put_letter(page: &mut [u8], at: usize, letter: u8) -> usize {
 fn put_answer(page: &mut [u8], at: usize, answer: Answer) -> usize {
     match answer {
         Answer::Ok => put(page, at, b"ok"),
-        Answer::Bad(monitor) => put_worded(page, at, b"bad ", monitor as u64),
+        Answer::Bad(number) => put_worded(page, at, b"bad ", number as u64),
         Answer::Refused(number) => put_worded(page, at, b"refused ", number as u64),
     }
 }

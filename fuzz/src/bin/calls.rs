@@ -1,11 +1,11 @@
 //! Random looks and takes through a program that answers cases, and through `second`: `calls N SEED PROGRAM [ARGUMENT..]`. Both must print the same, with the
-//! model's foot (totals.rs). A case that fails is made small and saved under `target/fuzz/`, in a folder named by its seed. Where answers end early, the case
-//! without one differs, and the run ends.
+//! model's answers and foot (totals.rs). A case that fails is made small and saved under `target/fuzz/`, in a folder named by its seed. Where answers end early,
+//! the case without one differs, and the run ends.
 
 use fuzz::calls::{self, Busy, Met, Touches};
 use fuzz::random::Random;
 use fuzz::totals::{self, Foot};
-use fuzz::{save, shrink, Case};
+use fuzz::{save, shrink, windows, Case};
 use second::stage::{self, Entry, Said};
 use std::ffi::OsString;
 use std::io;
@@ -34,7 +34,7 @@ impl Asked<'_> {
     }
 }
 
-/// What is wrong with an answer, or with the lack of one: it is not that of `second`, or that one has not the model's foot.
+/// What is wrong with an answer, or with the lack of one: it is not that of `second`, or that one has not the model's lines or foot.
 fn fault(answer: Option<&Vec<u8>>, right: &Vec<u8>, foot: Option<&Foot>) -> Option<&'static str> {
     if answer != Some(right) {
         return Some("differs");
@@ -50,6 +50,7 @@ struct Tally {
     busy: Busy,
     touches: Touches,
     feet: totals::Tally,
+    limits: windows::Tally,
 }
 
 impl Tally {
@@ -65,6 +66,7 @@ impl Tally {
             self.touches.count(&cases[i]);
             let foot = totals::of_calls(&cases[i]);
             self.feet.count(foot.as_ref());
+            self.limits.count(&cases[i], foot.as_ref().map(|foot| &foot.limits));
             if let Some(what) = fault(said.answers.get(i), &entry.answer, foot.as_ref()) {
                 self.report(what, asked, seeds[i], &cases[i])?;
             }
@@ -96,7 +98,7 @@ impl Tally {
         println!("{looks:8} looks bad for a busy thread alone, and {takes} takes; behind {went_on} of the looks a take was ok");
         let Touches { cases, shared_ok, shared_bad, not_last } = self.touches;
         println!("{cases:8} accepted: in {shared_ok} two letters lead to one row at an ok take, in {shared_bad} at a bad one; {not_last} bad before the last monitor");
-        println!("{}", self.feet);
+        println!("{}\n{}", self.feet, self.limits);
         println!("{} cases, {} differences", self.cases, self.differences);
     }
 }

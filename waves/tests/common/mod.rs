@@ -36,7 +36,7 @@ impl Case {
     }
 }
 
-/// All cases but the folder of refused texts, which have no waveform.
+/// All cases but refused texts, which have no waveform.
 pub fn cases() -> Vec<Case> {
     let mut cases = edge_cases();
     let root = Path::new(env!("CARGO_MANIFEST_DIR")).join("..");
@@ -49,6 +49,7 @@ pub fn cases() -> Vec<Case> {
             }
         }
     }
+    cases.retain(|case| !library::sheet(&case.text, &[]).starts_with(b"refused"));
     assert!(cases.len() > 100, "the tree has {} cases only", cases.len());
     cases
 }
@@ -59,6 +60,9 @@ fn entries(folder: &Path) -> Vec<PathBuf> {
         Err(_) => Vec::new(),
     }
 }
+
+/// Two limits of one production, which has every tick at which wire a is 1; a bad monitor comes before both.
+const LIMITED: &str = "input a; input b; x -> a; p -> x || !a; q -> !b; limit x to 2 in 8; limit x to 1 in 3; monitor p, q;";
 
 /// The field may change only where the wire stands.
 const HELD: &str = "input a; input D[7:0]; p -> a || !a & D == past(D); monitor p;";
@@ -90,6 +94,11 @@ fn edge_cases() -> Vec<Case> {
         Case::new("all wires", &format!("{many} p -> w0 || !w0; monitor p;"), scrambled(70, 64)),
         Case::new("a held field that moves", HELD, library::trace(&[0, 1 + 2 * 5, 2 * 5, 2 * 5, 2 * 4])),
         Case::new("a held field that stays", HELD, library::trace(&[0, 0, 1 + 2 * 200, 2 * 200, 1 + 2 * 7])),
+        Case::new("a limit", LIMITED, library::trace(&[1, 0, 0, 1, 0, 0, 1])),
+        Case::new("the second limit", LIMITED, library::trace(&[1, 0, 0, 1, 0, 1])),
+        Case::new("a limit that is kept", LIMITED, library::trace(&[1, 0, 0, 1, 0, 0, 0, 0, 1])),
+        Case::new("a monitor where a limit is passed too", LIMITED, library::trace(&[1, 0, 3])),
+        Case::new("the longest limit", "input a; x -> a; limit x to 1023 in 1024; monitor x;", library::trace(&[1; 1024])),
         Case::new("a field of one bit", "input a[0:0]; input b[1:0]; p -> a || !a; monitor p;", scrambled(9, 3)),
     ]
 }

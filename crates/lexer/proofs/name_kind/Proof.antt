@@ -2,7 +2,6 @@
 -- Assumes nothing.
 use mathlib.Core.Path.{sym, _∙_}
 use Rattle.lexer.proofs.Names.{word-hit, word-miss}
-use Rattle.lexer.proofs.Spelling.{lookup-nil}
 use borrow.Author.Needs.{needs}
 use Rattle.lexer.proofs.name_kind.Statement.{statement}
 use Rattle.lexer.proofs.name_kind.Tie as tie
@@ -72,14 +71,17 @@ returns-5 c =
     let q5 = sym (c .before .is-word5 .ensures) ∙ c .if5 .taken in
     simp (word-miss, word-hit)
 
+limit-kind-requires : tie.Need-limit-kind-requires
+limit-kind-requires c κs = search needs
+
 returns-6 : tie.Need-returns-6
 returns-6 c =
-    let q1 = sym (c .before .before .before .before .before .before .before .before .before .before .before .before .before .is-word .ensures) ∙ c .before .before .before .before .before .before .before .before .before .before .before .before .if1 .left in
-    let q2 = sym (c .before .before .before .before .before .before .before .before .before .before .is-word2 .ensures) ∙ c .before .before .before .before .before .before .before .before .before .if2 .left in
-    let q3 = sym (c .before .before .before .before .before .before .before .is-word3 .ensures) ∙ c .before .before .before .before .before .before .if3 .left in
-    let q4 = sym (c .before .before .before .before .is-word4 .ensures) ∙ c .before .before .before .if4 .left in
-    let q5 = sym (c .before .is-word5 .ensures) ∙ c .if5 .left in
-    simp (word-miss, lookup-nil)
+    let q1 = sym (c .before .before .before .before .before .before .before .before .before .before .before .before .before .before .is-word .ensures) ∙ c .before .before .before .before .before .before .before .before .before .before .before .before .before .if1 .left in
+    let q2 = sym (c .before .before .before .before .before .before .before .before .before .before .before .is-word2 .ensures) ∙ c .before .before .before .before .before .before .before .before .before .before .if2 .left in
+    let q3 = sym (c .before .before .before .before .before .before .before .before .is-word3 .ensures) ∙ c .before .before .before .before .before .before .before .if3 .left in
+    let q4 = sym (c .before .before .before .before .before .is-word4 .ensures) ∙ c .before .before .before .before .if4 .left in
+    let q5 = sym (c .before .before .is-word5 .ensures) ∙ c .before .if5 .left in
+    simp (word-miss, c .limit-kind .ensures)
 
 pub name-kind-spec : {M : Type 1} → statement M
 name-kind-spec =
@@ -100,4 +102,5 @@ name-kind-spec =
     slice-aggregate-is-word-5
     is-word-requires-5
     returns-5
+    limit-kind-requires
     returns-6)

@@ -47,11 +47,11 @@ same-length-4 c = search needs
 returns-4 : tie.Need-returns-4
 returns-4 c = store-no-end _ _ _ _ _ _ _ (c .before .before .before .before .before .before .before .before .before .before .before .before .new-name .ensures) _ _ (c .before .before .before .before .before .before .before .before .before .before .if1 .left) _ _ _ (c .before .before .before .before .before .before .before .before .before .width-to .ensures) (c .before .before .before .before .before .before .before .if2 .left) _ _ _ _ _ (c .before .before .before .before .before .before .largest .ensures) (c .before .before .before .before .before .number-to .ensures) (c .before .before .before .if3 .left) _ _ (c .before .before .sign .ensures) (c .if4 .taken)
 
-mul-values : tie.Need-mul-values
-mul-values c = let l = stores-left _ _ _ _ _ _ _ (c .before .before .before .before .before .before .before .before .before .before .before .before .new-name .ensures) (c .before .before .before .before .before .before .before .before .before .before .if1 .left) in omega arith
+mul-kept : tie.Need-mul-kept
+mul-kept c = let l = stores-left _ _ _ _ _ _ _ (c .before .before .before .before .before .before .before .before .before .before .before .before .new-name .ensures) (c .before .before .before .before .before .before .before .before .before .before .if1 .left) in omega arith
 
-element-write-values : tie.Need-element-write-values
-element-write-values c = let l = stores-left _ _ _ _ _ _ _ (c .before .before .before .before .before .before .before .before .before .before .before .before .new-name .ensures) (c .before .before .before .before .before .before .before .before .before .before .if1 .left) in omega arith
+element-write-kept : tie.Need-element-write-kept
+element-write-kept c = let l = stores-left _ _ _ _ _ _ _ (c .before .before .before .before .before .before .before .before .before .before .before .before .new-name .ensures) (c .before .before .before .before .before .before .before .before .before .before .if1 .left) in omega arith
 
 sub-write-name : tie.Need-sub-write-name
 sub-write-name c = let m = name-read _ _ _ _ _ _ _ _ _ (c .before .before .before .before .before .before .before .before .before .before .before .before .before .before .new-name .ensures) (c .before .before .before .before .before .before .before .before .before .before .before .before .if1 .left) in omega arith
@@ -91,8 +91,8 @@ store-spec =
     sign-requires
     same-length-4
     returns-4
-    mul-values
-    element-write-values
+    mul-kept
+    element-write-kept
     sub-write-name
     write-name-requires
     add-t16

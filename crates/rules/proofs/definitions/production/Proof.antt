@@ -4,7 +4,6 @@ use native.Mathlib.Omega.{arith}
 use borrow.Author.Needs.{needs}
 use Rattle.rules.proofs.Declaring.{ready-names}
 use Rattle.rules.proofs.Defining.{body-given, cell-room, no-begin, no-body, no-end, definition-read}
-use Rattle.meaning.specs.Names.{aProduction}
 use Rattle.rules.proofs.Bodies.{expression-read, production-begins, production-declares}
 use Rattle.rules.proofs.definitions.production.Statement.{statement}
 use Rattle.rules.proofs.definitions.production.Tie as tie
@@ -36,20 +35,20 @@ same-length-3 c = search needs
 returns-3 : tie.Need-returns-3
 returns-3 c = λ S. no-end _ _ _ _ _ _ _ _ _ (c .before .before .before .before .before .before .before .before .before .before .before .begun .ensures) _ S _ _ (production-begins _ _ (c .before .before .before .before .before .before .before .before .before .before .before .before .before .before .before .pre .1)) (c .before .before .before .before .before .before .before .before .before .if1 .left) _ _ _ _ _ _ _ (expression-read _ _ _ _ _ _ _ (c .before .before .before .before .before .before .before .expression .ensures)) (c .before .before .before .if2 .left) _ _ (c .before .before .sign .ensures) (c .if3 .taken)
 
-write-production-requires : tie.Need-write-production-requires
-write-production-requires c κs = let (a, b, d, e, f, g, h) = cell-room _ _ _ _ _ _ _ _ _ (c .before .before .before .before .before .before .before .before .before .before .before .before .before .begun .ensures) (c .before .before .before .before .before .before .before .before .before .before .before .if1 .left) _ _ (c .before .before .before .before .before .before .before .before .before .before .before .before .before .before .before .before .before .pre .0 .1) _ _ _ _ _ _ _ _ (expression-read _ _ _ _ _ _ _ (c .before .before .before .before .before .before .before .before .before .expression .ensures)) (c .before .before .before .before .before .if2 .left) _ _ (c .before .before .before .before .sign .ensures) (c .before .before .if3 .left) in (omega arith, b, d, e, f, g)
+write-numbered-requires : tie.Need-write-numbered-requires
+write-numbered-requires c κs = let (a, b, d, e, f, g, h) = cell-room _ _ _ _ _ _ _ _ _ (c .before .before .before .before .before .before .before .before .before .before .before .before .before .begun .ensures) (c .before .before .before .before .before .before .before .before .before .before .before .if1 .left) _ _ (c .before .before .before .before .before .before .before .before .before .before .before .before .before .before .before .before .before .pre .0 .1) _ _ _ _ _ _ _ _ (expression-read _ _ _ _ _ _ _ (c .before .before .before .before .before .before .before .before .before .expression .ensures)) (c .before .before .before .before .before .if2 .left) _ _ (c .before .before .before .before .sign .ensures) (c .before .before .if3 .left) in (a, b, d, e, f, omega arith, g)
 
 add-t18 : tie.Need-add-t18
-add-t18 c = let (a, b, d, e, f, g, h) = cell-room _ _ _ _ _ _ _ _ _ (c .before .before .before .before .before .before .before .before .before .before .before .before .before .before .before .before .before .begun .ensures) (c .before .before .before .before .before .before .before .before .before .before .before .before .before .before .before .if1 .left) _ _ (c .before .before .before .before .before .before .before .before .before .before .before .before .before .before .before .before .before .before .before .before .before .pre .0 .1) _ _ _ _ _ _ _ _ (expression-read _ _ _ _ _ _ _ (c .before .before .before .before .before .before .before .before .before .before .before .before .before .expression .ensures)) (c .before .before .before .before .before .before .before .before .before .if2 .left) _ _ (c .before .before .before .before .before .before .before .before .sign .ensures) (c .before .before .before .before .before .before .if3 .left) in omega arith
+add-t18 c = let (a, b, d, e, f, g, h) = cell-room _ _ _ _ _ _ _ _ _ (c .before .before .before .before .before .before .before .before .before .before .before .before .before .before .before .before .begun .ensures) (c .before .before .before .before .before .before .before .before .before .before .before .before .before .before .if1 .left) _ _ (c .before .before .before .before .before .before .before .before .before .before .before .before .before .before .before .before .before .before .before .before .pre .0 .1) _ _ _ _ _ _ _ _ (expression-read _ _ _ _ _ _ _ (c .before .before .before .before .before .before .before .before .before .before .before .before .expression .ensures)) (c .before .before .before .before .before .before .before .before .if2 .left) _ _ (c .before .before .before .before .before .before .before .sign .ensures) (c .before .before .before .before .before .if3 .left) in omega (arith, c .before .before .write-numbered .ensures .few)
 
 add-t19 : tie.Need-add-t19
-add-t19 c = let (a, b, d, e, f, g, h) = cell-room _ _ _ _ _ _ _ _ _ (c .before .before .before .before .before .before .before .before .before .before .before .before .before .before .before .before .before .before .begun .ensures) (c .before .before .before .before .before .before .before .before .before .before .before .before .before .before .before .before .if1 .left) _ _ (c .before .before .before .before .before .before .before .before .before .before .before .before .before .before .before .before .before .before .before .before .before .before .pre .0 .1) _ _ _ _ _ _ _ _ (expression-read _ _ _ _ _ _ _ (c .before .before .before .before .before .before .before .before .before .before .before .before .before .before .expression .ensures)) (c .before .before .before .before .before .before .before .before .before .before .if2 .left) _ _ (c .before .before .before .before .before .before .before .before .before .sign .ensures) (c .before .before .before .before .before .before .before .if3 .left) in omega arith
+add-t19 c = let (a, b, d, e, f, g, h) = cell-room _ _ _ _ _ _ _ _ _ (c .before .before .before .before .before .before .before .before .before .before .before .before .before .before .before .before .before .begun .ensures) (c .before .before .before .before .before .before .before .before .before .before .before .before .before .before .before .if1 .left) _ _ (c .before .before .before .before .before .before .before .before .before .before .before .before .before .before .before .before .before .before .before .before .before .pre .0 .1) _ _ _ _ _ _ _ _ (expression-read _ _ _ _ _ _ _ (c .before .before .before .before .before .before .before .before .before .before .before .before .before .expression .ensures)) (c .before .before .before .before .before .before .before .before .before .if2 .left) _ _ (c .before .before .before .before .before .before .before .before .sign .ensures) (c .before .before .before .before .before .before .if3 .left) in omega arith
 
 same-length-4 : tie.Need-same-length-4
 same-length-4 c = search needs
 
 returns-4 : tie.Need-returns-4
-returns-4 c = λ S. definition-read _ _ _ _ _ _ _ _ _ (c .before .before .before .before .before .before .before .before .before .before .before .before .before .before .before .before .before .before .begun .ensures) _ S _ _ (production-begins _ _ (c .before .before .before .before .before .before .before .before .before .before .before .before .before .before .before .before .before .before .before .before .before .before .pre .1)) (c .before .before .before .before .before .before .before .before .before .before .before .before .before .before .before .before .if1 .left) _ _ _ _ _ _ _ (expression-read _ _ _ _ _ _ _ (c .before .before .before .before .before .before .before .before .before .before .before .before .before .before .expression .ensures)) (c .before .before .before .before .before .before .before .before .before .before .if2 .left) _ _ (c .before .before .before .before .before .before .before .before .before .sign .ensures) (c .before .before .before .before .before .before .before .if3 .left) (c .before .before .before .before .before .before .before .before .before .before .before .before .before .before .before .before .before .before .before .before .before .before .pre .0 .1 .room .some) 3 (omega arith) (omega arith) aProduction production-declares _ (c .before .before .before .before .write-production .ensures)
+returns-4 c = λ S. definition-read _ _ _ _ _ _ _ _ _ (c .before .before .before .before .before .before .before .before .before .before .before .before .before .before .before .before .before .begun .ensures) _ S _ _ (production-begins _ _ (c .before .before .before .before .before .before .before .before .before .before .before .before .before .before .before .before .before .before .before .before .before .pre .1)) (c .before .before .before .before .before .before .before .before .before .before .before .before .before .before .before .if1 .left) _ _ _ _ _ _ _ (expression-read _ _ _ _ _ _ _ (c .before .before .before .before .before .before .before .before .before .before .before .before .before .expression .ensures)) (c .before .before .before .before .before .before .before .before .before .if2 .left) _ _ (c .before .before .before .before .before .before .before .before .sign .ensures) (c .before .before .before .before .before .before .if3 .left) (c .before .before .before .before .before .before .before .before .before .before .before .before .before .before .before .before .before .before .before .before .before .pre .0 .1 .room .some) _ 3 (omega arith) _ (production-declares _) _ (c .before .before .before .write-numbered .ensures)
 
 pub production-spec : {M : Type 1} → statement M
 production-spec =
@@ -64,7 +63,7 @@ production-spec =
     sign-requires
     same-length-3
     returns-3
-    write-production-requires
+    write-numbered-requires
     add-t18
     add-t19
     same-length-4

@@ -13,7 +13,7 @@ same-length : tie.Need-same-length
 same-length c = c .before .before .before .before .before .statements .ensures .words
 
 returns : tie.Need-returns
-returns c = (text-refused _ _ _ _ _ _ (c .before .before .before .before .before .statements .ensures) (c .if1 .taken) _ _ _ _ _, c .before .before .before .before .before .statements .ensures .words, c .before .before .before .before .before .statements .ensures .values, refl)
+returns c = (text-refused _ _ _ _ _ _ (c .before .before .before .before .before .statements .ensures) (c .if1 .taken) _ _ _ _ _ _, c .before .before .before .before .before .statements .ensures .words, c .before .before .before .before .before .statements .ensures .values, refl)
 
 monitors-requires : tie.Need-monitors-requires
 monitors-requires c κs = (text-names _ _ _ _ _ _ (c .before .before .before .before .before .before .before .statements .ensures) (c .before .before .if1 .left), let l = c .before .before .before .before .before .before .before .before .before .before .before .before .pre .2 in omega (arith, c .before .before .before .before .before .before .before .statements .ensures .words), c .before .before .before .before .before .before .before .before .before .before .before .before .pre .4)
