@@ -160,8 +160,8 @@ impl Following<'_, '_> {
         self.words.extend(bad);
     }
 
-    /// A word beyond a limit that fits all monitors, behind as many that are ok as it takes, up to so many; one that would be ok with one tick fewer in the window
-    /// if that is wanted.
+    /// A word beyond a limit that fits all monitors, behind as many that are ok as it takes, up to so many; if that is wanted, one that would be ok with one tick
+    /// fewer in the window.
     fn put_word_beyond(&mut self, opened: &Opened, towards: usize, just: bool) {
         let mut model = self.model(opened);
         for _ in 0..towards {
@@ -174,7 +174,10 @@ impl Following<'_, '_> {
             }
             let from = self.words.len();
             self.take_words(from + 1, 0);
-            self.words[from..].iter().for_each(|&word| _ = model.take(word));
+            let Some(&word) = self.words.get(from) else {
+                return;
+            };
+            model.take(word);
         }
     }
 
@@ -196,22 +199,29 @@ impl Following<'_, '_> {
         }
     }
 
+    /// Ends with words that are not ok, mostly: where letters count for limits, with one beyond a limit.
     fn leave(&mut self, opened: &Opened) {
-        match opened {
-            _ if self.makings.counting.is_empty() || self.random.once_in(5) => self.leave_monitors(opened),
-            _ if self.makings.monitors > 1 && self.random.once_in(2) => self.put_word_bad_in_two_ways(opened),
-            _ if self.random.once_in(2) => self.put_word_beyond(opened, TOWARDS, false),
-            _ => self.put_word_beyond(opened, longest(&opened.limits), true),
+        if self.makings.counting.is_empty() || self.random.once_in(5) {
+            self.leave_monitors(opened);
+        } else if self.makings.monitors > 1 && self.random.once_in(2) {
+            self.put_word_bad_in_two_ways(opened);
+        } else if self.random.once_in(2) {
+            self.put_word_beyond(opened, TOWARDS, false);
+        } else {
+            self.put_word_beyond(opened, longest(&opened.limits), true);
         }
     }
 
+    /// Ends with words that need not fit all monitors.
     fn leave_monitors(&mut self, opened: &Opened) {
-        match opened {
-            _ if opened.has_threads() && !self.random.once_in(4) => self.put_busy_word(opened),
-            _ if !self.makings.fields.is_empty() && !self.random.once_in(3) => self.put_moving_word(),
-            _ if self.makings.monitors > 1 && !self.random.once_in(3) => self.put_later_bad_word(),
-            _ if self.random.once_in(2) => self.put_any_words(),
-            _ => (),
+        if opened.has_threads() && !self.random.once_in(4) {
+            self.put_busy_word(opened);
+        } else if !self.makings.fields.is_empty() && !self.random.once_in(3) {
+            self.put_moving_word();
+        } else if self.makings.monitors > 1 && !self.random.once_in(3) {
+            self.put_later_bad_word();
+        } else if self.random.once_in(2) {
+            self.put_any_words();
         }
     }
 }

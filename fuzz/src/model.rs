@@ -50,7 +50,7 @@ struct Met {
     rest: Rc<Rest>,
 }
 
-/// What a word comes to. Bad names the lowest monitor that does not fit.
+/// What a word comes to. Bad names the lowest monitor that does not fit, Beyond the lowest limit where all fit.
 #[derive(Clone, Copy, Debug, PartialEq, Eq)]
 pub enum Said {
     Ok,

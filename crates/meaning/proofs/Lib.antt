@@ -1,4 +1,4 @@
--- What follows from the definitions. Openings has the headline: on every accepted text the machine of active positions replies as the meaning does.
+-- What follows from the definitions. Watch has the headline: word by word the verdict of the machine of active positions is that of the monitors. `monitor` carries it to calls.
 -- facts on lists that the others share: `each`, membership, tests
 pub mod ListLaws
 -- the runs on a tick and more are the runs on that tick alone, each followed by what follows its letters
@@ -41,7 +41,7 @@ pub mod Prefix
 pub mod Ends
 -- over rows that hold a monitor the walk is the machine's step, within four calls for each row
 pub mod Walk
--- the replies that the meaning fixes are the right ones, no others are, and the machine gives the same
+-- the replies that the meaning fixes are the right ones, no others are, and machines that judge and go on alike give the same
 pub mod Calls
 -- what holds of every outcome of a choice, of a name's kind, of a fault, holds of the step
 pub mod Steps
@@ -77,7 +77,7 @@ pub mod Spared
 pub mod Viable
 -- the bytes before a refused token can be followed by bytes to a text of the grammar
 pub mod Completed
--- an accepted text keeps the rules, has few letters, and the machine answers every list of calls on it as the meaning does
+-- an accepted text keeps the rules, and has few letters and limits
 pub mod Openings
 -- the shared examples hold, computed from the texts' bytes; no words at all fit every monitor
 pub mod Examples

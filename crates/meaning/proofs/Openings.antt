@@ -1,5 +1,5 @@
--- What opening gives: an accepted text's monitors are numbered in reading order, keep all shape rules and are few enough; its rules 9 and 12 are those of words; and the
--- machine of active positions answers every list of calls on it as the definitions do. Assumes nothing.
+-- What opening gives: an accepted text's monitors are numbered in reading order, keep all shape rules and are few enough, and so are its limits; its rules 9 and 12 are those of
+-- words. Assumes nothing.
 use mathlib.Core.Path.{_≡_, refl, sym, ap, _∙_, subst}
 use mathlib.Core.Logic.{_↔_, ⊎-elim}
 use mathlib.Core.Bool.{Bool, true, false, cond}

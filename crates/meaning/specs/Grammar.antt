@@ -152,7 +152,7 @@ pub data IsMonitors (ns : Names) : List Token → List Token → List Exp → Ty
 
 -- G2: "Declarations, perhaps none, stand first. One monitor statement follows and ends the text."
 pub data IsText : Names → List Token → Program → Type 0 where
-  -- a declaration, whose name may be used in what stands behind it (N2)
+  -- a declaration, whose name, if it declares one, may be used in what stands behind it (N2)
   declares : {ns : Names} {d : Declaration} {p : Program} {ts us : List Token} → IsDeclaration ns ts us d → IsText (declare d ns) us p → IsText ns ts p
   -- monitor names;    N6: "stores; monitors | 16; 32"
   monitors : {ns : Names} {ms : List Exp} {ts : List Token} → IsMonitors ns ts (sign semicolon ∷ end ∷ []) ms → length ms ≤ 32

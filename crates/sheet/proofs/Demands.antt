@@ -239,7 +239,8 @@ refused-exactly text number place short =
     let (c, d) = viable.refused-exactly text number place short in
     (λ e. c (a e), λ r. b (d r))
 
--- Where an input, a store and a production are declared and there is room for more, every list of tokens before the one refused could be followed to a text.
+-- Where an input, a store and a production of a single letter are declared, there is room for more and a limit's n is not too large, every list of tokens before the one refused could
+-- be followed to a text.
 pub first-unviable : {text : List ℕ} {number place : ℕ} (r : Refusal text number place) → Ample (r .names) (r .expects)
     → ((ps us : List Placed) → r .before ≡ ps ++ us → Viable (plainTokens ps)) × (Viable (plainTokens (r .before ++ (r .at ∷ []))) → ⊥)
 first-unviable = viable.first-unviable

@@ -100,7 +100,7 @@ pub(crate) fn put_ok(
     put_text(&whole[from..41], out, at)
 }
 
-// A bad tick: the laid line up to its verdict, and the monitor.
+// A bad tick: the laid line up to its verdict, and the number of the monitor, or of the limit and 32.
 pub(crate) fn put_bad(
     t: u64,
     word: u64,

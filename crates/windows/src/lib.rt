@@ -18,7 +18,7 @@ const MOSTS: usize = 1032;
 
 const BACKS: usize = 1040;
 
-// The place of the next tick, and how many limits there are.
+// The place of the next tick, and how many limits there are. Behind these nothing is used.
 const PLACE: usize = 1048;
 
 const LIMITS: usize = 1049;
