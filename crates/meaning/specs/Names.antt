@@ -13,7 +13,7 @@ pub data Meaning : Type 0 where
   aDefine : List Literal → Meaning
   aProduction : Exp → Meaning
 
--- G22: letters that came through the production with this number are met on "at most n of any w ticks in a row"
+-- G22: "at most n of any w ticks in a row" may meet letters that came through the production with this number
 pub record Limit : Type 0 where
   pub production : ℕ
   pub most : ℕ  -- n
