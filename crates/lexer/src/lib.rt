@@ -48,7 +48,7 @@ pub const RIGHT_ARROW: u8 = 16;
 pub const LEFT_ARROW: u8 = 17;
 
 // The words that can be reserved.
-#[derive(Drop)]
+#[derive(Clone, Copy)]
 pub enum Word {
     Input,
     Internal,
@@ -89,7 +89,7 @@ pub fn rule_words() -> Reserved
     }
 }
 
-#[derive(Drop)]
+#[derive(Clone, Copy)]
 pub enum Kind {
     Name,
     Word(Word),
@@ -103,7 +103,7 @@ pub enum Kind {
 
 // A token of a text: its first byte has the place `place`, and its bytes are those from `place` up to `after`.
 // The end and a knot take no byte: `after` is `place`.
-#[derive(Drop)]
+#[derive(Clone, Copy)]
 pub struct Token {
     pub kind: Kind,
     pub place: usize,

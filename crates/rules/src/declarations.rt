@@ -12,7 +12,7 @@ use words::quad;
 
 // What has been declared: the cell of the last name, how many names there are, the wires that are taken, the stores, and the
 // limits.
-#[derive(Drop)]
+#[derive(Clone, Copy)]
 pub(crate) struct Scope {
     pub(crate) last: usize,
     pub(crate) count: usize,

@@ -187,7 +187,7 @@ fn simple_operand(text: &[u8], words: &mut [u64], last: usize, free: usize, t: S
 }
 
 // A level of parentheses: what stands left of the last `||`, of the last `,` behind that, and of an `@` behind that.
-#[derive(Drop)]
+#[derive(Clone, Copy)]
 pub(crate) struct Depth {
     pub(crate) alts: Part,
     pub(crate) seqs: Part,

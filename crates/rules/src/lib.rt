@@ -32,7 +32,7 @@ use words::part0;
 // start; how many ticks were ok, at how many of them each letter was met, and whether a tick was bad; which limits count
 // each letter; and the windows of the limits (crate `windows`).
 // Between large arrays stands a number: the compiler then copies each array to its place, without a whole watch on the way.
-#[derive(Drop)]
+#[derive(Clone, Copy)]
 pub struct Watch {
     pub table: [u64; 1024],
     pub rows: usize,
@@ -59,14 +59,14 @@ pub struct Watch {
 }
 
 // Both counts, or a refusal's number with a byte's place, or with monitor and letter.
-#[derive(Drop)]
+#[derive(Clone, Copy)]
 pub enum Outcome {
     Open(usize, usize),
     AtByte(u8, usize),
     AtLetter(u8, usize, usize),
 }
 
-#[derive(Drop)]
+#[derive(Clone, Copy)]
 pub struct Start {
     pub outcome: Outcome,
     pub watch: Watch,

@@ -21,7 +21,7 @@ use words::{part0, part1, part2, part3, quad};
 // The wires looked at and the values wanted there; whether no wire is wanted both ways; how many store tests there are,
 // three standing for any more; the last of their links, where there are at most two; and the index of the word that has
 // the wires to be as before (0: none).
-#[derive(Drop)]
+#[derive(Clone, Copy)]
 pub(crate) struct Condition {
     pub(crate) look: u64,
     pub(crate) want: u64,

@@ -26,7 +26,7 @@ pub(crate) const NAMED: usize = 5;
 
 // An expression that was read: its node among the words (0: none), its letters, counted up to 257, whether it is
 // nullable, and the first letter at fault for rules 9 and 10: 0 for none, else 1 more than the letter, counted likewise.
-#[derive(Drop)]
+#[derive(Clone, Copy)]
 pub(crate) struct Part {
     pub(crate) node: usize,
     pub(crate) letters: usize,

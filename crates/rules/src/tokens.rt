@@ -33,7 +33,7 @@ pub(crate) const END: u8 = 28;
 
 const KNOT: u8 = 29;
 
-#[derive(Drop)]
+#[derive(Clone, Copy)]
 pub(crate) struct Seen {
     pub(crate) kind: u8,
     // X4: the number of a refusal of the token where it is not allowed.

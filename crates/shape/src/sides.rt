@@ -15,7 +15,7 @@ use words::{part0, part1, part2, word_at};
 // What a part has of letters and their rivals: whether the part is nullable; the letters that can come first in it, and those of which a rival can; the letters that can come
 // next after one of those that can come last in it, and those of which a rival can; and the letters that come first in a thread of it together with a rival, or next after the same
 // letter.
-#[derive(Drop)]
+#[derive(Clone, Copy)]
 pub(crate) struct SideSets {
     pub nullable: bool,
     pub first_own: u64,

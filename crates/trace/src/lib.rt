@@ -24,7 +24,7 @@ pub enum Read {
     Idle(usize),
 }
 
-#[derive(Drop)]
+#[derive(Clone, Copy)]
 pub enum Written {
     // This many bytes were written.
     Length(usize),
