@@ -1,0 +1,10 @@
+-- `counts::begins_in` meets its contract.
+-- Assumes nothing.
+use Prim.Native.Nat.{ℕ, ◌%◌}
+use mathlib.Core.Path.{ap}
+use mathlib.Core.Bool.{not}
+use lib.Dec.{eqb}
+use Rattle.counts.proofs.begins_in.Goals as goal
+
+pub returns : goal.returns
+returns c = ap (λ (n : ℕ). not (eqb (n % 2) 0)) c.part3.ensures

@@ -1,0 +1,12 @@
+-- `lexer::number_at` meets its contract. The loop's invariant: the number, read up to `i`, has the value `value` so far.
+-- Assumes nothing.
+use Prim.Native.Nat.{◌-◌}
+use lib.ListN.{length}
+use Rattle.lexer.proofs.Numbers.{Read}
+use Rattle.lexer.proofs.number_at.Given as goal
+
+abbrev pub invariant-loop-i : goal.invariant-loop-i
+invariant-loop-i l = Read l.text l.place l.value l.i
+
+abbrev pub decreases-loop-i : goal.decreases-loop-i
+decreases-loop-i l = length l.text - l.i

@@ -1,0 +1,11 @@
+-- `live::state::count_eight` meets its contract.
+-- Assumes nothing.
+use Rattle.monitor.proofs.TickSteps.{eight-done}
+use Rattle.live.specs.State.{one_more}
+use Rattle.live.proofs.state.count_eight.Goals as goal
+
+pub returns : goal.returns
+returns c =
+    let a = c.args in
+    eight-done a.marks.now one_more a.from a.state.now _ _ _ _ _ _ _ _ c.count_if.ensures c.count_if-2.ensures c.count_if-3.ensures c.count_if-4.ensures
+    c.count_if-5.ensures c.count_if-6.ensures c.count_if-7.ensures c.count_if-8.ensures

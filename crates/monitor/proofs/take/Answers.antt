@@ -1,0 +1,30 @@
+-- `monitor::take` meets its contract.
+-- Assumes nothing.
+use mathlib.Core.Path.{◌∙◌}
+use Rattle.monitor.specs.Calls.{state_of}
+use Rattle.monitor.proofs.TickSteps.{lent-step, lent-touched, told-by, take-refused, take-bad, few-ticks, take-ok}
+use Rattle.monitor.proofs.take.Goals as goal
+
+pub returns-then-number-ne0 : goal.returns-then-number-ne0
+returns-then-number-ne0 c = let (r, u) = take-refused _ _ _ c.refused_by-number.ensures c.if-number-ne0.true in (r, told-by _ _ _ r, u)
+
+pub returns-then-is_bad : goal.returns-then-is_bad
+returns-then-is_bad c =
+    let a = c.args in
+    let s = lent-step a.t1 _ _ c.tables_of-tables.ensures c.layout_of-layout.ensures (state_of a.t1).inner a.word _ c.step-answer.ensures in
+    let n = lent-touched a.t1 _ _ c.tables_of-tables.ensures c.layout_of-layout.ensures _ _ c.counts_of-counts.ensures c.touched_by-rows.ensures in
+    let (r, u) = take-bad a.t1 a.word _ c.refused_by-number.ensures c.if-number-ne0.false _ _ _ _ s _ c.is_bad.ensures _ c.if-is_bad.true c.stopped-next.ensures in
+    (r, n ∙ told-by a.t1 a.word _ r, u)
+
+pub moved_on-next-requires : goal.moved_on-next-requires
+moved_on-next-requires c =
+    let a = c.args in
+    few-ticks a.t1 a.word _ c.refused_by-number.ensures c.if-number-ne0.false
+
+pub returns : goal.returns
+returns c =
+    let a = c.args in
+    let s = lent-step a.t1 _ _ c.tables_of-tables.ensures c.layout_of-layout.ensures (state_of a.t1).inner a.word _ c.step-answer.ensures in
+    let n = lent-touched a.t1 _ _ c.tables_of-tables.ensures c.layout_of-layout.ensures _ _ c.counts_of-counts.ensures c.touched_by-rows.ensures in
+    let (r, u) = take-ok a.t1 a.word _ c.refused_by-number.ensures c.if-number-ne0.false _ _ _ _ s _ c.is_bad.ensures _ c.if-is_bad.false _ c.count_met.ensures c.moved_on-next.ensures in
+    (r, n ∙ told-by a.t1 a.word _ r, u)

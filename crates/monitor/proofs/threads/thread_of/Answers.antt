@@ -1,0 +1,10 @@
+-- `monitor::threads::thread_of` meets its contract.
+-- Assumes nothing.
+use Rattle.monitor.proofs.ThreadSteps.{goes_on_lem, ends-here}
+use Rattle.monitor.proofs.threads.thread_of.Goals as goal
+
+pub returns-then-number-eq0 : goal.returns-then-number-eq0
+returns-then-number-eq0 c = ends-here c.args.number c.if-number-eq0.true
+
+pub returns : goal.returns
+returns c = goes_on_lem c.args.number c.if-number-eq0.false

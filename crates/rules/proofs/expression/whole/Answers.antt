@@ -1,0 +1,19 @@
+-- `rules::expression::whole` meets its contract.
+-- Assumes nothing.
+use native.Mathlib.Omega.{arith}
+use mathlib.Core.Path.{refl, ◌∙◌}
+use mathlib.Core.Logic.{inl, inr}
+use Rattle.rules.proofs.Operating.{join-given, joined-more}
+use Rattle.rules.proofs.expression.whole.Goals as goal
+
+pub join-requires : goal.join-requires
+join-requires c =
+    let j = c.sequenced-m.ensures in
+    let (level, part) = join-given _ _ _ _ _ _ _ _ _ j c.requires.2 c.requires.3 in
+    (omega (arith, j.few, j.extends.long), omega (arith, j.extends.long), inr (inl refl), (level.0.alts, level.1.alts), part)
+
+pub shape_of-words : goal.shape_of-words
+shape_of-words c = c.join.ensures.extends.long ∙ c.sequenced-m.ensures.extends.long
+
+pub returns : goal.returns
+returns c = joined-more _ _ _ _ _ _ _ _ _ _ _ c.sequenced-m.ensures 2 _ (λ L. L.alts) (λ R e L k. k.alts) (λ L e. refl) _ _ _ c.join.ensures (omega arith)

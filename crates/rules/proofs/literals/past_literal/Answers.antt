@@ -1,0 +1,52 @@
+-- `rules::literals::past_literal` meets its contract.
+-- Assumes nothing.
+use mathlib.Core.Path.{sym, ◌∙◌, ap, ap₂}
+use Prim.Native.Nat.{ℕ, ◌*◌, ◌^◌}
+use native.Mathlib.Omega.{arith}
+use borrow.Author.Tests.{not-true, not-false}
+use lib.Bits.{bit_or}
+use lib.Pow.{pow_pos}
+use Rattle.rules.proofs.Put.{put-extends, put-at}
+use Rattle.rules.proofs.LiteralSteps.{past-no-paren, past-other, past_open, past-read, past_room}
+use Rattle.rules.proofs.literals.past_literal.Goals as goal
+
+pub returns-then-open-ne0 : goal.returns-then-open-ne0
+returns-then-open-ne0 c = λ most. past-no-paren _ _ _ _ _ _ _ _ _ _ _ c.sign-open.ensures most c.if-open-ne0.true
+
+pub is_name-requires : goal.is_name-requires
+is_name-requires c = ((_, c.see-t.ensures), c.requires.3, c.requires.4)
+
+pub returns-then-not-is_name : goal.returns-then-not-is_name
+returns-then-not-is_name c = λ most. past-other _ _ _ _ _ _ _ _ _ _ _ c.sign-open.ensures most c.if-open-ne0.false _ c.see-t.ensures (sym c.is_name.ensures ∙ not-true _ c.if-not-is_name.true-raw)
+
+pub returns-then-close-ne0 : goal.returns-then-close-ne0
+returns-then-close-ne0 c = λ most. past_open _ _ _ _ _ _ _ _ _ _ _ c.sign-open.ensures most c.if-open-ne0.false _ c.see-t.ensures (sym c.is_name.ensures ∙ not-false _ c.if-not-is_name.false-raw) _ _ c.sign-close.ensures c.if-close-ne0.true
+
+pub held_at-requires : goal.held_at-requires
+held_at-requires c =
+    let (ls, k) = c.requires.0.condition in
+    let r = c.requires.0.room in
+    omega (arith, k.helds.low, r.fits, r.inside)
+
+pub largest-requires : goal.largest-requires
+largest-requires c = omega (arith, c.requires.2)
+
+pub moved-requires : goal.moved-requires
+moved-requires c = (let o = pow_pos c.args.width in omega (arith, c.largest.ensures), c.requires.2, c.requires.1)
+
+pub offset_bounds-words-free : goal.offset_bounds-words-free
+offset_bounds-words-free c = let r = c.requires.0.room in omega (arith, r.small, past_room _ _ c.sign-open.ensures c.if-open-ne0.false c.requires.0)
+
+pub bounds-words-free : goal.bounds-words-free
+bounds-words-free c = past_room _ _ c.sign-open.ensures c.if-open-ne0.false c.requires.0
+
+pub overflow_add-result : goal.overflow_add-result
+overflow_add-result c = let r = c.requires.0.room in omega (arith, r.small, past_room _ _ c.sign-open.ensures c.if-open-ne0.false c.requires.0)
+
+pub returns : goal.returns
+returns c =
+    λ most.
+    let room = past_room _ _ c.sign-open.ensures c.if-open-ne0.false c.requires.0 in
+    past-read _ _ _ _ _ _ _ _ _ _ _ c.sign-open.ensures most c.if-open-ne0.false _ c.see-t.ensures (sym c.is_name.ensures ∙ not-false _ c.if-not-is_name.false-raw) _ _ c.sign-close.ensures
+    c.if-close-ne0.false c.requires.2 c.requires.0.room.some _ (put-extends _ _ _ room)
+    (put-at c.args.words.now c.args.free _ room ∙ ap₂ bit_or c.held_at.ensures (c.moved.ensures ∙ ap (λ (n : ℕ). n * 2 ^ c.args.lo) c.largest.ensures))

@@ -1,0 +1,14 @@
+-- `shape::ends::lowest_open` meets its contract. The loop's invariant: the lowest letter from `i` on is the lowest from `first` on.
+-- Assumes nothing.
+use mathlib.Core.Path.{◌≡◌}
+use Prim.Native.Nat.{◌-◌}
+use Rattle.shape.specs.Ends.{open_at}
+use Rattle.shape.specs.Walk.{kinds, lefts, rights}
+use Rattle.shape.specs.Lowest.{lowest}
+use Rattle.shape.proofs.ends.lowest_open.Given as goal
+
+abbrev pub invariant-loop-i : goal.invariant-loop-i
+invariant-loop-i l = lowest (open_at (kinds l.table) (lefts l.table) (rights l.table) l.row) l.i (l.end - l.i) ≡ lowest (open_at (kinds l.table) (lefts l.table) (rights l.table) l.row) l.first (l.end - l.first)
+
+abbrev pub decreases-loop-i : goal.decreases-loop-i
+decreases-loop-i l = l.end - l.i

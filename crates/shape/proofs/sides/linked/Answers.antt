@@ -1,0 +1,6 @@
+-- `shape::sides::linked` meets its contract. Assumes nothing.
+use Rattle.shape.proofs.Bits.{has-or, has-and}
+use Rattle.shape.proofs.sides.linked.Goals as goal
+
+pub returns : goal.returns
+returns c = λ x. simp (has-or, has-and)
