@@ -114,11 +114,11 @@ module _ (R : List Word) where
         ∙ next-blank R (length x) (drop (length x) x) (ap (all is_white) (drop-length x))))
 
     -- one token of x, and the same after it
-    goes_on : (at : ℕ) → at ≤ length x → goes_on (token_at R (x ++ y) at).token ≡ true → (token_at R (x ++ y) at).after ≤ length x
+    goes_on_lem : (at : ℕ) → at ≤ length x → goes_on (token_at R (x ++ y) at).token ≡ true → (token_at R (x ++ y) at).after ≤ length x
         → tokens_at R (x ++ y) (token_at R (x ++ y) at).after ≡ joined (tokens_at R x (token_at R (x ++ y) at).after) rest
         → tokens_at R (x ++ y) at ≡ joined (tokens_at R x at) rest
     unfolding joined
-    goes_on at h g l e =
+    goes_on_lem at h g l e =
         let t = token-front R x y at h g l in
         let g' = ap (λ (t : Placed). goes_on t.token) (sym t) ∙ g in
         tokens-step R (x ++ y) at
@@ -140,12 +140,12 @@ module _ (R : List Word) where
         later false g z ih = absurd z
         later true g z ih =
             let l = ends-later (x ++ y) T.after (length x) _ (in-order-from R (x ++ y) k T.after (lies R (x ++ y) at).high) z in
-            goes_on at h g l (ih l z)
+            goes_on_lem at h g l (ih l z)
 
         go : ((goes_on T.token ≡ true) × (T.after ≡ length x)) ⊎ Ends (length x) (cond (goes_on T.token) (tokens_from R k (x ++ y) T.after) [])
             → (T.after ≤ length x → Ends (length x) (tokens_from R k (x ++ y) T.after) → tokens_at R (x ++ y) T.after ≡ joined (tokens_at R x T.after) rest)
             → tokens_at R (x ++ y) at ≡ joined (tokens_at R x at) rest
-        go (inl z) ih = goes_on at h z.0 (omega (arith, z.1)) (subst (λ (n : ℕ). tokens_at R (x ++ y) n ≡ joined (tokens_at R x n) rest) (sym z.1) at-boundary)
+        go (inl z) ih = goes_on_lem at h z.0 (omega (arith, z.1)) (subst (λ (n : ℕ). tokens_at R (x ++ y) n ≡ joined (tokens_at R x n) rest) (sym z.1) at-boundary)
         go (inr z) ih = later (goes_on T.token) refl z ih
 
   -- PARTED BY THEMSELVES. Where a token of x and y together ends with x, the tokens are those of x and, instead of x's end, those of y, moved.

@@ -63,7 +63,7 @@ apart-cond false n c h = h
 
 signs_apart : (b c : ℕ) (es : List (Entry ℕ)) → Apart c → Apart (sign_class b c es)
 signs_apart b c [] h = h
-signs_apart b c (e ∷ es) h = signs_apart b _ es (apart-cond (begins b e.spelling) e.meaning c h)
+signs_apart b c (e ∷ es) h = signs_apart b (cond (begins b e.spelling) (4 + e.meaning) c) es (apart-cond (begins b e.spelling) e.meaning c h)
 
 -- a range of classes below 4, by the tests that make the class
 module _ (low high : ℕ) (one : 1 ≤ low) (three : high ≤ 3) where

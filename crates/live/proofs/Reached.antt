@@ -10,7 +10,7 @@ use lib.Bits.{or_lt}
 use lib.ListN.{length, length-set, length-replicate, length-take, length-drop, get_or, get_or-replicate, set, drop, replicate, take as take-some}
 use lib.Seq.{sets, length-sets, get_or-set_same, get_or-set_other, set-get_or, get_or-take, get_or-drop, ext_get_or}
 use Rattle.meaning.specs.Answers.{value}
-use Rattle.meaning.specs.Calls.{Call, look, take, word_of, State, Reply, ok, bad, refused, reply, after, after_call, stateFrom, standing, touched_by, Answer, looked, took}
+use Rattle.meaning.specs.Calls.{Call, look, take, word_of, State, Reply, ok, bad, refused, reply, after, after_call, state_from, standing, touched_by, Answer, looked, took}
 use Rattle.meaning.specs.Lists.{each}
 use Rattle.meaning.specs.Expression.{letters, size, rows}
 use Rattle.meaning.specs.Opening.{Opened, open_text}
@@ -140,8 +140,8 @@ module _ (v : Watch) (low : AllMost 255 v.counted) where
   wide-call s (look w) r h = h
   wide-call s (take w) r h = wide-after s w r h
 
-  wide_from : (cs : List Call) (s : State Moving) → Wide s.inner → Wide (stateFrom (judge v) (onward v) v.wires s cs).inner
-  unfolding stateFrom
+  wide_from : (cs : List Call) (s : State Moving) → Wide s.inner → Wide (state_from (judge v) (onward v) v.wires s cs).inner
+  unfolding state_from
   wide_from [] s h = h
   wide_from (c ∷ cs) s h = wide_from cs (after_call (onward v) s c (reply (judge v) v.wires s (word_of c))) (wide-call s c _ h)
 
@@ -337,7 +337,7 @@ module _ (text : List ℕ) (o : Opened) (e : open_text text ≡ value o) where
 
   -- ---- any calls
 
-  all-wide : (cs : List Call) → Wide (stateFrom (judge v) (onward v) v.wires (state_of v) cs).inner
+  all-wide : (cs : List Call) → Wide (state_from (judge v) (onward v) v.wires (state_of v) cs).inner
   all-wide cs = wide_from v low cs (state_of v) (record { marks_all = first_marks; narrow = first-narrow; windows_all = first-windows })
 
   after_next : (u : Watch) (bs : List Call) (c : Call) → watch_after_all u (bs ++ c ∷ []) ≡ watch_after_call (watch_after_all u bs) c
@@ -359,7 +359,7 @@ module _ (text : List ℕ) (o : Opened) (e : open_text text ≡ value o) where
       let m = after_next v cs (take w) ∙ moved_on u w r in
       let h = watch-held text o e (cs ++ take w ∷ []) in
       let d = watches-by v (state_of v) cs in
-      let f = onward-wide v low (stateFrom (judge v) (onward v) v.wires (state_of v) cs).inner w (all-wide cs) in
+      let f = onward-wide v low (state_from (judge v) (onward v) v.wires (state_of v) cs).inner w (all-wide cs) in
       let g : Wide (onward u (state_of u).inner w) = subst (λ (x : Watch). Wide (onward x (state_of x).inner w)) (sym d) f in
       record {
         bits = λ k. let b = subst (λ (x : Watch). AllMost 1 x.marks) m (marks-bits text o e (cs ++ take w ∷ [])) k in omega (arith, b);

@@ -9,7 +9,7 @@ use lib.ListN.{length, length-set, get_or, set}
 use lib.Seq.{get_or-set_same, get_or-set_other}
 use Rattle.lexer.proofs.Bools.{left}
 use Rattle.meaning.specs.Fit.{Verdict, ok as clean, bad as broken}
-use Rattle.meaning.specs.Calls.{State, Reply, ok, bad, refused, is_full, is_stray, reply, reply_of as verdictReply}
+use Rattle.meaning.specs.Calls.{State, Reply, ok, bad, refused, is_full, is_stray, reply, reply_of as verdict_reply}
 use Rattle.meaning.specs.Calls as calls
 use Rattle.meaning.proofs.ListLaws.{clash}
 use Rattle.windows.specs.Windows.{counted_in}
@@ -144,7 +144,7 @@ module _ (u : Watch) (W : Words) (t : Ties u W) (w : ℕ) where
   unfolding reply_of reply
   good-answer e = by u.stopped (is_full u.ticks) (is_stray u.wires w) (is_bad (answer_from u (state_of u).inner w)) e
     where
-      by : (a b c d : Bool) → cond a (refused 16 0) (cond b (refused 17 0) (cond c (refused 15 0) (verdictReply (cond d (broken (answer_from u (state_of u).inner w)) clean)))) ≡ ok → d ≡ false
+      by : (a b c d : Bool) → cond a (refused 16 0) (cond b (refused 17 0) (cond c (refused 15 0) (verdict_reply (cond d (broken (answer_from u (state_of u).inner w)) clean)))) ≡ ok → d ≡ false
       by a b c false p = refl
       by true b c true p = clash (cc p)
       by false true c true p = clash (cc p)

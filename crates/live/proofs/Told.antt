@@ -15,7 +15,7 @@ use Rattle.words.proofs.Quads.{quad-0, quad-1, quad-2}
 use Rattle.meaning.specs.Answers.{value}
 use Rattle.meaning.specs.Fit.{bad as broken, ok as clean}
 use Rattle.meaning.specs.Totals.{totals}
-use Rattle.meaning.specs.Calls.{Call, look, take, State, Reply, ok, bad, refused, is_full, is_stray, reply, reply_of as verdictReply, touched_by, Answer, looked, took, standing, AllAnswered}
+use Rattle.meaning.specs.Calls.{Call, look, take, State, Reply, ok, bad, refused, is_full, is_stray, reply, reply_of as verdict_reply, touched_by, Answer, looked, took, standing, AllAnswered}
 use Rattle.meaning.specs.Opening.{Opened, open_text}
 use Rattle.rules.specs.declared.Watch.{Watch}
 use Rattle.rules.specs.Watches.{watch_of}
@@ -59,7 +59,7 @@ unfolding reply_of reply
 reply-small u w = by u.stopped (is_full u.ticks) (is_stray u.wires w) (is_bad (answer_from u (state_of u).inner w)) refl
   where
     by : (a b c d : Bool) → is_bad (answer_from u (state_of u).inner w) ≡ d
-        → Small (cond a (refused 16 0) (cond b (refused 17 0) (cond c (refused 15 0) (verdictReply (cond d (broken (answer_from u (state_of u).inner w)) clean)))))
+        → Small (cond a (refused 16 0) (cond b (refused 17 0) (cond c (refused 15 0) (verdict_reply (cond d (broken (answer_from u (state_of u).inner w)) clean)))))
     by true b c d e = (omega arith, refl)
     by false true c d e = (omega arith, refl)
     by false false true d e = (omega arith, refl)
@@ -196,12 +196,12 @@ module _ (u : Watch) (W : Words) (t : Ties u W) where
       let from = get_or y.firsts i 0 in
       let to = letters_end y.firsts y.monitors y.letters i in
       let low = end_low y.firsts y.monitors y.letters i (omega arith) in
-      ap (λ (z : Layout). placed-met (lettersPlace (within z) i k)) t.layout
+      ap (λ (z : Layout). placed-met (letters_place (within z) i k)) t.layout
       ∙ by (ltb i y.monitors) from to low
       ∙ sym (met_at_lem u.firsts u.totals (min u.monitors 32) (min u.letters 256) (min u.monitors 32) i k)
     where
-      lettersPlace : Layout → (i l : ℕ) → ℕ
-      lettersPlace y i l = cond (ltb i y.monitors) (cond (ltb l (letters_end y.firsts y.monitors y.letters i - get_or y.firsts i 0)) (get_or y.firsts i 0 + l) 256) 256
+      letters_place : Layout → (i l : ℕ) → ℕ
+      letters_place y i l = cond (ltb i y.monitors) (cond (ltb l (letters_end y.firsts y.monitors y.letters i - get_or y.firsts i 0)) (get_or y.firsts i 0 + l) 256) 256
 
       placed-met : ℕ → ℕ
       placed-met p = cond (ltb p 256) (get_or S (320 + p) 0) 0

@@ -16,7 +16,7 @@ use Rattle.meaning.specs.ShapeTests.{AllRead}
 use Rattle.meaning.specs.Fit.{Verdict, ok as clean, bad as broken, History, start, onward, history}
 use Rattle.meaning.specs.Names.{Limit}
 use Rattle.meaning.specs.Limits.{judged}
-use Rattle.meaning.specs.Calls.{Call, look, take, word_of, Reply, ok, bad, refused, reply_of, most_ticks, is_full, is_stray, State, opening, reply, after, after_call, repliesFrom, stateFrom, replies, is_ok, is_bad, is_refused, taken, taken_replies, judged_words, Rightly, AllRightly}
+use Rattle.meaning.specs.Calls.{Call, look, take, word_of, Reply, ok, bad, refused, reply_of, most_ticks, is_full, is_stray, State, opening, reply, after, after_call, replies_from, state_from, replies, is_ok, is_bad, is_refused, taken, taken_replies, judged_words, Rightly, AllRightly}
 use Rattle.meaning.proofs.ListLaws.{carry-append, clash}
 use Rattle.meaning.proofs.Watch.{AllAccepted, Tracks, opened-tracks, same-verdict, same_move}
 use Rattle.meaning.proofs.Accept.{accept-all}
@@ -180,14 +180,14 @@ module _ (ls : List Limit) (ms : List Exp) (initial : List ℕ) (wires : ℕ) wh
 
   -- the replies to more calls: a look finds what the takes before it left
   rightly-from : (cs : List Call) (s : State History) (ws : List ℕ) (rs : List Reply) → Kept ws rs s → (n : ℕ) → n < length cs
-      → Rightly ls ms initial wires (ws ++ taken (up_to n cs)) (rs ++ taken_replies (up_to n cs) (up_to n (repliesFrom (judged ls ms) (onward ms) wires s cs)))
-      (word_of (get_or cs n (take 0))) (get_or (repliesFrom (judged ls ms) (onward ms) wires s cs) n ok)
-  unfolding repliesFrom
+      → Rightly ls ms initial wires (ws ++ taken (up_to n cs)) (rs ++ taken_replies (up_to n cs) (up_to n (replies_from (judged ls ms) (onward ms) wires s cs)))
+      (word_of (get_or cs n (take 0))) (get_or (replies_from (judged ls ms) (onward ms) wires s cs) n ok)
+  unfolding replies_from
   rightly-from [] s ws rs k n lt = absurd (omega arith)
   rightly-from (c ∷ cs) s ws rs k zero lt = rw (append-nil ws, append-nil rs) (rightly ws rs s k (word_of c))
   rightly-from (look w ∷ cs) s ws rs k (suc n) lt = rightly-from cs s ws rs k n (omega arith)
   rightly-from (take w ∷ cs) s ws rs k (suc n) lt =
-      rw (← append_assoc ws (w ∷ []) (taken (up_to n cs)), ← append_assoc rs (r ∷ []) (taken_replies (up_to n cs) (up_to n (repliesFrom (judged ls ms) (onward ms) wires t cs))))
+      rw (← append_assoc ws (w ∷ []) (taken (up_to n cs)), ← append_assoc rs (r ∷ []) (taken_replies (up_to n cs) (up_to n (replies_from (judged ls ms) (onward ms) wires t cs))))
       (rightly-from cs t (ws ++ w ∷ []) (rs ++ r ∷ []) (keep ws rs s k w r refl) n (omega arith))
     where
       r : Reply
@@ -235,8 +235,8 @@ module _ (ls : List Limit) (ms : List Exp) (initial : List ℕ) (wires : ℕ) wh
       (subst (λ l. Rightly ls ms initial wires (taken (up_to n cs)) (taken_replies (up_to n cs) l) w (get_or rs n ok)) same (x n (omega arith))) (y n (omega arith)))
       ∙ sym (take-suc qs n ok (omega arith))
 
-  pub length-replies : (s : State History) (cs : List Call) → length (repliesFrom (judged ls ms) (onward ms) wires s cs) ≡ length cs
-  unfolding repliesFrom
+  pub length-replies : (s : State History) (cs : List Call) → length (replies_from (judged ls ms) (onward ms) wires s cs) ≡ length cs
+  unfolding replies_from
   length-replies s [] = refl
   length-replies s (c ∷ cs) = ap suc (length-replies (after_call (onward ms) s c (reply (judged ls ms) wires s (word_of c))) cs)
 
@@ -274,16 +274,16 @@ module _ {S R : Type 0} (judge : S → ℕ → Verdict) (move : S → ℕ → S)
   call-alike x y a (look w) = a
   call-alike x y a (take w) = left-alike x y a w (reply judge' wires y w) refl
 
-  pub same-replies : (cs : List Call) (x : State S) (y : State R) → Alike Like x y → repliesFrom judge move wires x cs ≡ repliesFrom judge' move' wires y cs
-  unfolding repliesFrom
+  pub same-replies : (cs : List Call) (x : State S) (y : State R) → Alike Like x y → replies_from judge move wires x cs ≡ replies_from judge' move' wires y cs
+  unfolding replies_from
   same-replies [] x y a = refl
   same-replies (c ∷ cs) x y a =
-      ap (λ k. k ∷ repliesFrom judge move wires (after_call move x c k) cs) (same-reply x y a (word_of c))
+      ap (λ k. k ∷ replies_from judge move wires (after_call move x c k) cs) (same-reply x y a (word_of c))
       ∙ ap (λ l. reply judge' wires y (word_of c) ∷ l) (same-replies cs _ _ (call-alike x y a c))
 
-  pub same-states : (cs : List Call) (x : State S) (y : State R) → Alike Like x y → Alike Like (stateFrom judge move wires x cs) (stateFrom judge' move' wires y cs)
-  unfolding stateFrom
+  pub same-states : (cs : List Call) (x : State S) (y : State R) → Alike Like x y → Alike Like (state_from judge move wires x cs) (state_from judge' move' wires y cs)
+  unfolding state_from
   same-states [] x y a = a
   same-states (c ∷ cs) x y a =
-      subst (λ k. Alike Like (stateFrom judge move wires (after_call move x c k) cs) (stateFrom judge' move' wires (after_call move' y c (reply judge' wires y (word_of c))) cs))
+      subst (λ k. Alike Like (state_from judge move wires (after_call move x c k) cs) (state_from judge' move' wires (after_call move' y c (reply judge' wires y (word_of c))) cs))
       (sym (same-reply x y a (word_of c))) (same-states cs _ _ (call-alike x y a c))

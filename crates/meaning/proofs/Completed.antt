@@ -55,9 +55,9 @@ module _ (s : List ℕ) (q : Placed) (rest : List Placed) where
           (h, rw h at g, rw h at k)
       by false g e = absurd (some ts (cc))
 
-  goes_on : (at : ℕ) (ts : List Placed) → tokens_at rule_words s at ≡ ts ++ (q ∷ rest) → GoOn (plain_tokens ts)
-  goes_on at [] e = tt
-  goes_on at (t ∷ ts) e = let (h, g, f) = front at t ts e in (g, goes_on t.after ts f)
+  goes_on_lem : (at : ℕ) (ts : List Placed) → tokens_at rule_words s at ≡ ts ++ (q ∷ rest) → GoOn (plain_tokens ts)
+  goes_on_lem at [] e = tt
+  goes_on_lem at (t ∷ ts) e = let (h, g, f) = front at t ts e in (g, goes_on_lem t.after ts f)
 
   within : (at : ℕ) (ts : List Placed) → tokens_at rule_words s at ≡ ts ++ (q ∷ rest) → at ≤ length s → last_end at ts ≤ length s
   within at [] e l = l
@@ -154,5 +154,5 @@ completed {text} r k =
     let x : plain_tokens (tokens rule_words (take n text)) ≡ plain_tokens ps ++ (token.end ∷ []) =
     cut-tokens (take n text) (drop n text) r.at r.behind ps 0 h (sym (length-take-le n text (within text r.at r.behind 0 ps r.splits (omega arith)))) in
     let l : plain_tokens (tokens rule_words (take n text ++ (32 ∷ y))) ≡ plain_tokens ps ++ tokens_of f =
-    behind-space (take n text) y (plain_tokens ps) (goes_on text r.at r.behind 0 ps r.splits) x ∙ ap (λ (us : List Token). plain_tokens ps ++ us) e in
+    behind-space (take n text) y (plain_tokens ps) (goes_on_lem text r.at r.behind 0 ps r.splits) x ∙ ap (λ (us : List Token). plain_tokens ps ++ us) e in
     (32 ∷ y, p, subst (λ (us : List Token). IsText no_names us p) (sym l) t)

@@ -7,7 +7,7 @@ use Rattle.meaning.specs.Lists.{◌∈◌, any}
 use Rattle.meaning.specs.Expression.{Letter, Exp, letter, seq, alt, star, pipe, letters}
 use Rattle.meaning.specs.Shape.{last}
 use Rattle.meaning.proofs.ListLaws.{here, there, ∈-left, ∈-right}
-use Rattle.meaning.proofs.Shifted.{shiftLetter, shifted, letters-shifted, nullable-shifted, last-shifted}
+use Rattle.meaning.proofs.Shifted.{shift_letter, shifted, letters-shifted, nullable-shifted, last-shifted}
 use Rattle.meaning.proofs.Counting.{Place, asked_count, left_of_seq, right_of_seq, side_of_alt, body_of_star, left_of_pipe, thread_place, own_place, starts, sums, sums_after}
 
 -- ---- the letters met ----
@@ -75,7 +75,7 @@ module _ (k : ℕ) where
     starts-shifted : (e : Exp) → starts act (shifted k e) ≡ starts beyond e
     starts-shifted e = ap (any (λ x. act x.number && last x.number (shifted k e))) (letters-shifted k e) ∙ by (letters e)
       where
-        by : (xs : List Letter) → any (λ x. act x.number && last x.number (shifted k e)) (map (shiftLetter k) xs) ≡ any (λ x. beyond x.number && last x.number e) xs
+        by : (xs : List Letter) → any (λ x. act x.number && last x.number (shifted k e)) (map (shift_letter k) xs) ≡ any (λ x. beyond x.number && last x.number e) xs
         by [] = refl
         by (x ∷ xs) = ap₂ ◌||◌ (ap (λ b. act (k + x.number) && b) (last-shifted k x.number e)) (by xs)
 

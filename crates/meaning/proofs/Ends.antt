@@ -10,7 +10,7 @@ use lib.Dec.{eqb, eqb→eq, eqb_refl}
 use Rattle.meaning.specs.Fit.{Tick}
 use Rattle.meaning.specs.Positions.{joined, Entered, passed, blocked, then_enter, or_enter, or_pass, goes_by}
 use Rattle.meaning.specs.Table.{Under, Kind, is_letter, is_seq, is_alt, is-star, is_pipe, Table}
-use Rattle.meaning.specs.RowWalk.{enter_by, leave_by, enter_row, askRow, leaveRow}
+use Rattle.meaning.specs.RowWalk.{enter_by, leave_by, enter_row, ask_row, leave_row}
 use Rattle.meaning.proofs.ListLaws.{is_true, is_false}
 use Rattle.meaning.proofs.Entering.{goes-by-only}
 
@@ -110,16 +110,16 @@ module _ (shut : ℕ → Bool) (R : Table) where
   )
 
   mutual
-    unfolding AskEnds askRow
+    unfolding AskEnds ask_row
 
-    pub ends-ask : (n m r : ℕ) (t : Tick) → AskEnds shut n R r t → n ≤ m → AskEnds shut m R r t × (askRow shut m R r t ≡ askRow shut n R r t)
+    pub ends-ask : (n m r : ℕ) (t : Tick) → AskEnds shut n R r t → n ≤ m → AskEnds shut m R r t × (ask_row shut m R r t ≡ ask_row shut n R r t)
     ends-ask zero m r t e h = absurd e
     ends-ask (suc n) zero r t e h = absurd (omega arith)
     ends-ask (suc n) (suc m) r t e h =
         let (i, q) = ends-enter n m r e.0 (omega arith) in
         ((i, λ p. (ends-leave n m r t (e.1 (sym (q t) ∙ p)) (omega arith)).0), goes_same (enter_row shut n R r t) (q t) (λ p. (ends-leave n m r t (e.1 p) (omega arith)).1))
 
-    pub ends-leave : (n m r : ℕ) (t : Tick) → LeaveEnds shut n R r t → n ≤ m → LeaveEnds shut m R r t × (leaveRow shut m R r t ≡ leaveRow shut n R r t)
+    pub ends-leave : (n m r : ℕ) (t : Tick) → LeaveEnds shut n R r t → n ≤ m → LeaveEnds shut m R r t × (leave_row shut m R r t ≡ leave_row shut n R r t)
     ends-leave zero m r t e h = absurd e
     ends-leave (suc n) zero r t e h = absurd (omega arith)
     ends-leave (suc n) (suc m) r t e h = (
@@ -160,15 +160,15 @@ module _ (shut : ℕ → Bool) (R : Table) where
     unfolding AskEnds
     ask-calls n t = (λ e. e, λ e. e)
 
-    pub ask-once : (n : ℕ) (t : Tick) → askRow shut (suc n) R r t ≡ goes_by (enter_row shut n R r t) (leaveRow shut n R r t)
-    unfolding askRow
+    pub ask-once : (n : ℕ) (t : Tick) → ask_row shut (suc n) R r t ≡ goes_by (enter_row shut n R r t) (leave_row shut n R r t)
+    unfolding ask_row
     ask-once n t = refl
 
     -- entering it passes, whatever count that has: leaving it ends
     pub passes_on : (n N : ℕ) (t : Tick) → AskEnds shut (suc n) R r t → n ≤ N → enter_row shut N R r t ≡ passed → LeaveEnds shut n R r t
     passes_on n N t e h p = let (i, l) = (ask-calls n t).0 e in l (sym ((ends-enter n N r i h).1 t) ∙ p)
 
-    pub ask-unfolds : (n N : ℕ) (t : Tick) → AskEnds shut n R r t → n ≤ N → askRow shut N R r t ≡ goes_by (enter_row shut N R r t) (leaveRow shut N R r t)
+    pub ask-unfolds : (n N : ℕ) (t : Tick) → AskEnds shut n R r t → n ≤ N → ask_row shut N R r t ≡ goes_by (enter_row shut N R r t) (leave_row shut N R r t)
     unfolding AskEnds
     ask-unfolds zero N t e h = absurd e
     ask-unfolds (suc n) N t e h =
@@ -189,12 +189,12 @@ module _ (shut : ℕ → Bool) (R : Table) where
       λ e. rw (no-monitor, under.0, is, side) e,
     )
 
-    pub leave-once : (n : ℕ) (t : Tick) → leaveRow shut (suc n) R c t ≡ leave_by k o (askRow shut n R (R r).right t) (leaveRow shut n R r t) (askRow shut n R r t)
-    unfolding leaveRow
+    pub leave-once : (n : ℕ) (t : Tick) → leave_row shut (suc n) R c t ≡ leave_by k o (ask_row shut n R (R r).right t) (leave_row shut n R r t) (ask_row shut n R r t)
+    unfolding leave_row
     leave-once n t = rw (no-monitor, under.0, is, side)
 
     pub leave-unfolds : (n N : ℕ) (t : Tick) → LeaveEnds shut n R c t → n ≤ N
-        → leaveRow shut N R c t ≡ leave_by k o (askRow shut N R (R r).right t) (leaveRow shut N R r t) (askRow shut N R r t)
+        → leave_row shut N R c t ≡ leave_by k o (ask_row shut N R (R r).right t) (leave_row shut N R r t) (ask_row shut N R r t)
     unfolding LeaveEnds
     leave-unfolds zero N t e h = absurd e
     leave-unfolds (suc n) N t e h =
@@ -212,11 +212,11 @@ module _ (shut : ℕ → Bool) (R : Table) where
     unfolding LeaveEnds
     own-calls n t = (λ e. rw is-monitor at e, λ e. rw is-monitor e)
 
-    pub own-once : (n : ℕ) (t : Tick) → leaveRow shut (suc n) R r t ≡ askRow shut n R r t
-    unfolding leaveRow
+    pub own-once : (n : ℕ) (t : Tick) → leave_row shut (suc n) R r t ≡ ask_row shut n R r t
+    unfolding leave_row
     own-once n t = rw is-monitor
 
-    pub own-unfolds : (n N : ℕ) (t : Tick) → LeaveEnds shut n R r t → n ≤ N → leaveRow shut N R r t ≡ askRow shut N R r t
+    pub own-unfolds : (n N : ℕ) (t : Tick) → LeaveEnds shut n R r t → n ≤ N → leave_row shut N R r t ≡ ask_row shut N R r t
     unfolding LeaveEnds
     own-unfolds zero N t e h = absurd e
     own-unfolds (suc n) N t e h = (ends-leave (suc n) N r t e h).1 ∙ own-once n t ∙ sym (ends-ask n N r t ((own-calls n t).0 e) (omega arith)).1

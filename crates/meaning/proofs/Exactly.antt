@@ -142,17 +142,17 @@ abbrev at : (number i letter : ℕ) → Answer Opened
 at n i l = refused n (letter_of i l)
 
 module _ (p : Program) (sized : EachSized (as_opened p).monitors) where
-  judgedMonitors : Answer Opened
-  judgedMonitors = misshapen 0 (as_opened p).monitors (value (as_opened p))
+  judged_monitors : Answer Opened
+  judged_monitors = misshapen 0 (as_opened p).monitors (value (as_opened p))
 
   program-accepted : (o : Opened) → open_program p ≡ value o ↔ ((total size p.monitors ≤ 256) × EachWell (as_opened p).monitors × (as_opened p ≡ o))
-  unfolding open_program judgedMonitors
+  unfolding open_program judged_monitors
   program-accepted o = (
     λ e.
-        let (f, r) = few_letters p.monitors judgedMonitors o e in
+        let (f, r) = few_letters p.monitors judged_monitors o e in
         let (w, q) = shaped _ (judging 0 (as_opened p).monitors (value (as_opened p)) sized) r in
         (f, w, q),
-    λ (f, w, q). counted-through 0 0 p.monitors judgedMonitors (omega (arith, f)) ∙ judged-well 0 (as_opened p).monitors (value (as_opened p)) sized w ∙ ap value q,
+    λ (f, w, q). counted-through 0 0 p.monitors judged_monitors (omega (arith, f)) ∙ judged-well 0 (as_opened p).monitors (value (as_opened p)) sized w ∙ ap value q,
   )
     where
       shaped : (x : Answer Opened) → Judging 0 (as_opened p).monitors (value (as_opened p)) x → x ≡ value o → EachWell (as_opened p).monitors × (as_opened p ≡ o)
@@ -160,15 +160,15 @@ module _ (p : Program) (sized : EachSized (as_opened p).monitors) where
       shaped x (first_ill bs ds m r n d h f) e = clash (cc)
 
   program-turned : (number i letter : ℕ) → open_program p ≡ refused number (letter_of i letter) ↔ TurnedAway p number i letter
-  unfolding open_program judgedMonitors
+  unfolding open_program judged_monitors
   program-turned number i letter = (
-    λ e. long _ (counting 0 0 p.monitors judgedMonitors (omega arith)) e,
+    λ e. long _ (counting 0 0 p.monitors judged_monitors (omega arith)) e,
     ⊎_elim
         (λ (a, b, l). let s = l.stands in
-        ap (λ (ms : List Exp). too_long 0 0 ms judgedMonitors) s.split
-        ∙ counted-beyond 0 0 l.before s.after l.monitor judgedMonitors (omega (arith, l.kept)) (omega (arith, l.passed)) ∙ named-so a b l.before s.number)
+        ap (λ (ms : List Exp). too_long 0 0 ms judged_monitors) s.split
+        ∙ counted-beyond 0 0 l.before s.after l.monitor judged_monitors (omega (arith, l.kept)) (omega (arith, l.passed)) ∙ named-so a b l.before s.number)
         (λ (f, t). let s = t.stands in
-        counted-through 0 0 p.monitors judgedMonitors (omega (arith, f))
+        counted-through 0 0 p.monitors judged_monitors (omega (arith, f))
         ∙ ap (λ (ms : List Exp). misshapen 0 ms (value (as_opened p))) s.split
         ∙ judged-ill 0 t.before s.after t.monitor number letter (value (as_opened p)) (subst EachSized s.split sized) t.kept t.fault
         ∙ ap (λ (j : ℕ). refused number (letter_of j letter)) (let z : 0 + length t.before ≡ i = omega (arith, s.number) in z)),
@@ -192,7 +192,7 @@ module _ (p : Program) (sized : EachSized (as_opened p).monitors) where
             fault = subst (λ (k : ℕ). FirstFault m k letter) a (subst (FirstFault m r) b f);
           }
 
-      long : (x : Answer Opened) → Counting 0 0 p.monitors judgedMonitors x → x ≡ refused number (letter_of i letter) → TurnedAway p number i letter
+      long : (x : Answer Opened) → Counting 0 0 p.monitors judged_monitors x → x ≡ refused number (letter_of i letter) → TurnedAway p number i letter
       long x (few g) e = inr (omega (arith, g), shaped _ (judging 0 (as_opened p).monitors (value (as_opened p)) sized) e)
       long x (many bs ds m d h l) e =
           let a : long_run ≡ number = cc in
@@ -202,14 +202,14 @@ module _ (p : Program) (sized : EachSized (as_opened p).monitors) where
 
   -- no byte is named
   program-no-byte : (number place : ℕ) → open_program p ≡ refused number (byte place) → ⊥
-  unfolding open_program judgedMonitors
-  program-no-byte number place e = long _ (counting 0 0 p.monitors judgedMonitors (omega arith)) e
+  unfolding open_program judged_monitors
+  program-no-byte number place e = long _ (counting 0 0 p.monitors judged_monitors (omega arith)) e
     where
       shaped : (x : Answer Opened) → Judging 0 (as_opened p).monitors (value (as_opened p)) x → x ≡ refused number (byte place) → ⊥
       shaped x (all_well h) e = clash (cc)
       shaped x (first_ill bs ds m r n d h f) e = clash (cc)
 
-      long : (x : Answer Opened) → Counting 0 0 p.monitors judgedMonitors x → x ≡ refused number (byte place) → ⊥
+      long : (x : Answer Opened) → Counting 0 0 p.monitors judged_monitors x → x ≡ refused number (byte place) → ⊥
       long x (few g) e = shaped _ (judging 0 (as_opened p).monitors (value (as_opened p)) sized) e
       long x (many bs ds m d h l) e = clash (cc)
 

@@ -15,8 +15,8 @@ use Rattle.meaning.specs.Reading.{choose, on_name, on_number, if_name, if_number
 use Rattle.meaning.specs.Names.{declare}
 use Rattle.meaning.specs.Answers.{Answer, value, refused}
 use Rattle.meaning.specs.Opening.{Opened, counts, counts_of, as_opened, too_long, misshapen, open_program, open_text}
-use Rattle.meaning.specs.Calls.{Call, Reply, reply, repliesFrom, replies}
-use Rattle.trace.specs.Record.{digit, number, count, picked, recordOf, differs, changes, written, new_byte, merged, idle, read_record}
+use Rattle.meaning.specs.Calls.{Call, Reply, reply, replies_from, replies}
+use Rattle.trace.specs.Record.{digit, number, count, picked, record_of, differs, changes, written, new_byte, merged, idle, read_record}
 use Rattle.trace.specs.Whole.{write_all, write_trace}
 use Rattle.meaning.specs.Limits.{counts_at, counts_from, keeps_from, limits_verdict}
 use Rattle.meaning.specs.Totals.{met_from}
@@ -31,7 +31,7 @@ AllHold [] = Unit {0}
 AllHold (x ∷ xs) = Holds x × AllHold xs
 
 pub examples-hold : AllHold examples
-unfolding own occupied choose on_name on_number if_name if_number unless by_kind known new_name not_here at_token is_white is_digit is_letter run same lookup name_token value_from number_token sign_token first_token next_token token_at tokens_from tokens_at letters size rows renumbered meets merge rounds runs write_met onward verdict limits_verdict keeps_from counts_from counts_at nullable first last follow threads agree together unsatisfiable parts nullables open_ends ambiguous shape meets_wires declare as_production single store_tests literal_name behind_operand behind_literal step read_on read as_opened too_long misshapen open_program open_text counts_of reply digit number count picked recordOf differs changes written new_byte merged idle read_record write_all write_trace sheet tick_lines clean_line counts_line refusal_line met_from met_line met_lines all_met_lines total_line foot line decimal digits_in hexadecimal
+unfolding own occupied choose on_name on_number if_name if_number unless by_kind known new_name not_here at_token is_white is_digit is_letter run same lookup name_token value_from number_token sign_token first_token next_token token_at tokens_from tokens_at letters size rows renumbered meets merge rounds runs write_met onward verdict limits_verdict keeps_from counts_from counts_at nullable first last follow threads agree together unsatisfiable parts nullables open_ends ambiguous shape meets_wires declare as_production single store_tests literal_name behind_operand behind_literal step read_on read as_opened too_long misshapen open_program open_text counts_of reply digit number count picked record_of differs changes written new_byte merged idle read_record write_all write_trace sheet tick_lines clean_line counts_line refusal_line met_from met_line met_lines all_met_lines total_line foot line decimal digits_in hexadecimal
 examples-hold = (refl, (refl, (refl, (refl, (refl, (refl, (refl, (refl, (refl, (refl, (refl, (refl, (refl, (refl, (refl, (refl, (refl, (refl, (refl, (refl, (refl, (refl, (refl, (refl, (refl, (refl, (refl, (refl, (refl, (refl, (refl, (refl, (refl, (refl, (refl, (refl, (refl, (refl, (refl, (refl, tt))))))))))))))))))))))))))))))))))))))))
 
 -- looks and takes on the watch that a text opens, and none on one that it does not
@@ -44,7 +44,7 @@ AllAnswered [] = Unit {0}
 AllAnswered (x ∷ xs) = (replies_to (open_text x.text) x.calls ≡ x.replies) × AllAnswered xs
 
 pub dialogues-hold : AllAnswered dialogues
-unfolding own occupied choose on_name on_number if_name if_number unless by_kind known new_name not_here at_token is_white is_digit is_letter run same lookup name_token value_from number_token sign_token first_token next_token token_at tokens_from tokens_at letters size rows renumbered meets merge rounds runs write_met onward verdict limits_verdict keeps_from counts_from counts_at nullable first last follow threads agree together unsatisfiable parts nullables open_ends ambiguous shape meets_wires declare as_production single store_tests literal_name behind_operand behind_literal step read_on read as_opened too_long misshapen open_program open_text reply repliesFrom
+unfolding own occupied choose on_name on_number if_name if_number unless by_kind known new_name not_here at_token is_white is_digit is_letter run same lookup name_token value_from number_token sign_token first_token next_token token_at tokens_from tokens_at letters size rows renumbered meets merge rounds runs write_met onward verdict limits_verdict keeps_from counts_from counts_at nullable first last follow threads agree together unsatisfiable parts nullables open_ends ambiguous shape meets_wires declare as_production single store_tests literal_name behind_operand behind_literal step read_on read as_opened too_long misshapen open_program open_text reply replies_from
 dialogues-hold = (refl, (refl, tt))
 
 -- the numbers below n
@@ -70,7 +70,7 @@ touchings-hold = (refl, (refl, (refl, (refl, (refl, (refl, tt))))))
 
 -- the sample's trace is the one that the customer's specification prints
 pub sample-trace : write_trace sample.words ≡ 1 ∷ 1 ∷ 1 ∷ 0 ∷ 0 ∷ []
-unfolding digit number count picked recordOf differs changes written write_all write_trace
+unfolding digit number count picked record_of differs changes written write_all write_trace
 sample-trace = refl
 
 -- F14: "no words at all fit every monitor"

@@ -268,11 +268,11 @@ module _ {ns : Names} {t : Placed} {x : Expect} where
   wire-goes {c} {ls} {lo} {w} {v} n h y =
       subst (λ s. Outcome ns t x (go ns (wire_more c ls s lo w v t.place))) (sym (ap Reading.spelling_of h)) (goes h (by_name y))
 
-  on-new : (noWire full : Bool) (y : List ℕ → Expect) → ((s : List ℕ) → Free ns s → noWire ≡ false → full ≡ false → ByName ns t.place s x (y s))
-      → Outcome ns t x (new_name ns t noWire full (λ s. go ns (y s)))
+  on-new : (no_wire full : Bool) (y : List ℕ → Expect) → ((s : List ℕ) → Free ns s → no_wire ≡ false → full ≡ false → ByName ns t.place s x (y s))
+      → Outcome ns t x (new_name ns t no_wire full (λ s. go ns (y s)))
   unfolding new_name
-  on-new noWire full y f =
-      on-name _ (λ s h. right _ twice _ (λ e. right noWire oversize _ (λ k. right _ crowded _ (λ g.
+  on-new no_wire full y f =
+      on-name _ (λ s h. right _ twice _ (λ e. right no_wire oversize _ (λ k. right _ crowded _ (λ g.
       goes h (by_name (f s (unknown-none (lookup s ns.declared) e, leb-false 128 (length ns.declared) (or_right full _ g)) k (or_left full _ g)))))))
 
   on-right-paren : (o : Open) (e : Exp) (b : Bool) (ls : List Level) → BehindOperand x o e b → o.outer ≡ ls → t.token ≡ token.sign right_paren

@@ -20,27 +20,27 @@ use Rattle.meaning.proofs.Summary.{nullable-renumbered}
 module _ (k : ℕ) where
   -- ---- k added to each number ----
 
-  abbrev pub shiftAll : List ℕ → List ℕ
-  shiftAll ns = map (λ n. k + n) ns
+  abbrev pub shift_all : List ℕ → List ℕ
+  shift_all ns = map (λ n. k + n) ns
 
   abbrev pub shift : Option (List ℕ) → Option (List ℕ)
   shift none = none
-  shift (some ns) = some (shiftAll ns)
+  shift (some ns) = some (shift_all ns)
 
-  abbrev pub shiftEntered : Entered → Entered
-  shiftEntered (met n) = met (k + n)
-  shiftEntered passed = passed
-  shiftEntered blocked = blocked
+  abbrev pub shift_entered : Entered → Entered
+  shift_entered (met n) = met (k + n)
+  shift_entered passed = passed
+  shift_entered blocked = blocked
 
-  abbrev pub shiftPositions : Positions → Positions
-  shiftPositions at_start = at_start
-  shiftPositions (on ns) = on (shiftAll ns)
+  abbrev pub shift_positions : Positions → Positions
+  shift_positions at_start = at_start
+  shift_positions (on ns) = on (shift_all ns)
 
-  abbrev pub shiftLetter : Letter → Letter
-  shiftLetter l = record { number = k + l.number; literals = l.literals; writes = l.writes; through = l.through }
+  abbrev pub shift_letter : Letter → Letter
+  shift_letter l = record { number = k + l.number; literals = l.literals; writes = l.writes; through = l.through }
 
   unfoldable pub shifted : Exp → Exp
-  shifted (letter l) = letter (shiftLetter l)
+  shifted (letter l) = letter (shift_letter l)
   shifted (seq e f) = seq (shifted e) (shifted f)
   shifted (alt e f) = alt (shifted e) (shifted f)
   shifted (star e) = star (shifted e)
@@ -57,13 +57,13 @@ module _ (k : ℕ) where
 
   -- ---- letters ----
 
-  pub letters-shifted : (e : Exp) → letters (shifted e) ≡ map shiftLetter (letters e)
+  pub letters-shifted : (e : Exp) → letters (shifted e) ≡ map shift_letter (letters e)
   unfolding letters shifted
   letters-shifted (letter l) = refl
-  letters-shifted (seq e f) = ap₂ ◌++◌ (letters-shifted e) (letters-shifted f) ∙ sym (map-append shiftLetter (letters e) (letters f))
-  letters-shifted (alt e f) = ap₂ ◌++◌ (letters-shifted e) (letters-shifted f) ∙ sym (map-append shiftLetter (letters e) (letters f))
+  letters-shifted (seq e f) = ap₂ ◌++◌ (letters-shifted e) (letters-shifted f) ∙ sym (map-append shift_letter (letters e) (letters f))
+  letters-shifted (alt e f) = ap₂ ◌++◌ (letters-shifted e) (letters-shifted f) ∙ sym (map-append shift_letter (letters e) (letters f))
   letters-shifted (star e) = letters-shifted e
-  letters-shifted (pipe e f) = ap₂ ◌++◌ (letters-shifted e) (letters-shifted f) ∙ sym (map-append shiftLetter (letters e) (letters f))
+  letters-shifted (pipe e f) = ap₂ ◌++◌ (letters-shifted e) (letters-shifted f) ∙ sym (map-append shift_letter (letters e) (letters f))
 
   pub eqb-shifted : (a b : ℕ) → eqb (k + a) (k + b) ≡ eqb a b
   eqb-shifted a b = by (eqb a b) refl
@@ -72,11 +72,11 @@ module _ (k : ℕ) where
       by true p = eq-eqb (k + a) (k + b) (omega (arith, eqb-true a b p))
       by false p = ne_eqb (k + a) (k + b) (λ e. eqb-false a b p (omega arith))
 
-  pub member-shifted : (n : ℕ) (ns : List ℕ) → member (k + n) (shiftAll ns) ≡ member n ns
+  pub member-shifted : (n : ℕ) (ns : List ℕ) → member (k + n) (shift_all ns) ≡ member n ns
   member-shifted n [] = refl
   member-shifted n (m ∷ ns) = ap₂ ◌||◌ (eqb-shifted n m) (member-shifted n ns)
 
-  among-shifted : (n : ℕ) (ls : List Letter) → among (map shiftLetter ls) (k + n) ≡ among ls n
+  among-shifted : (n : ℕ) (ls : List Letter) → among (map shift_letter ls) (k + n) ≡ among ls n
   among-shifted n [] = refl
   among-shifted n (l ∷ ls) = ap₂ ◌||◌ (eqb-shifted n l.number) (among-shifted n ls)
 
@@ -85,11 +85,11 @@ module _ (k : ℕ) where
 
   -- ---- threads ----
 
-  pub own-shifted : (e : Exp) → own (shifted e) ≡ map shiftLetter (own e)
+  pub own-shifted : (e : Exp) → own (shifted e) ≡ map shift_letter (own e)
   unfolding own shifted
   own-shifted (letter l) = refl
-  own-shifted (seq e f) = ap₂ ◌++◌ (own-shifted e) (own-shifted f) ∙ sym (map-append shiftLetter (own e) (own f))
-  own-shifted (alt e f) = ap₂ ◌++◌ (own-shifted e) (own-shifted f) ∙ sym (map-append shiftLetter (own e) (own f))
+  own-shifted (seq e f) = ap₂ ◌++◌ (own-shifted e) (own-shifted f) ∙ sym (map-append shift_letter (own e) (own f))
+  own-shifted (alt e f) = ap₂ ◌++◌ (own-shifted e) (own-shifted f) ∙ sym (map-append shift_letter (own e) (own f))
   own-shifted (star e) = own-shifted e
   own-shifted (pipe e f) = own-shifted e
 
@@ -117,32 +117,32 @@ module _ (k : ℕ) where
   last-shifted n (star e) = last-shifted n e
   last-shifted n (pipe e f) = last-shifted n e
 
-  only-shifted : (b : Bool) (ls : List Letter) → only b (map shiftLetter ls) ≡ map shiftLetter (only b ls)
+  only-shifted : (b : Bool) (ls : List Letter) → only b (map shift_letter ls) ≡ map shift_letter (only b ls)
   only-shifted true ls = refl
   only-shifted false ls = refl
 
-  first-shifted : (e : Exp) → first (shifted e) ≡ map shiftLetter (first e)
+  first-shifted : (e : Exp) → first (shifted e) ≡ map shift_letter (first e)
   unfolding first shifted
   first-shifted (letter l) = refl
   first-shifted (seq e f) =
-      ap₂ ◌++◌ (first-shifted e) (ap₂ only (nullable-shifted e) (first-shifted f) ∙ only-shifted (nullable e) (first f)) ∙ sym (map-append shiftLetter (first e) (only (nullable e) (first f)))
-  first-shifted (alt e f) = ap₂ ◌++◌ (first-shifted e) (first-shifted f) ∙ sym (map-append shiftLetter (first e) (first f))
+      ap₂ ◌++◌ (first-shifted e) (ap₂ only (nullable-shifted e) (first-shifted f) ∙ only-shifted (nullable e) (first f)) ∙ sym (map-append shift_letter (first e) (only (nullable e) (first f)))
+  first-shifted (alt e f) = ap₂ ◌++◌ (first-shifted e) (first-shifted f) ∙ sym (map-append shift_letter (first e) (first f))
   first-shifted (star e) = first-shifted e
   first-shifted (pipe e f) = first-shifted e
 
   -- what can follow a last letter of e
-  behind-last : (n : ℕ) (e f : Exp) → only (last (k + n) (shifted e)) (first (shifted f)) ≡ map shiftLetter (only (last n e) (first f))
+  behind-last : (n : ℕ) (e f : Exp) → only (last (k + n) (shifted e)) (first (shifted f)) ≡ map shift_letter (only (last n e) (first f))
   behind-last n e f = ap₂ only (last-shifted n e) (first-shifted f) ∙ only-shifted (last n e) (first f)
 
-  follow-shifted : (n : ℕ) (e : Exp) → follow (k + n) (shifted e) ≡ map shiftLetter (follow n e)
+  follow-shifted : (n : ℕ) (e : Exp) → follow (k + n) (shifted e) ≡ map shift_letter (follow n e)
   unfolding follow shifted
   follow-shifted n (letter l) = refl
   follow-shifted n (seq e f) =
-      ap₂ ◌++◌ (ap₂ ◌++◌ (follow-shifted n e) (follow-shifted n f) ∙ sym (map-append shiftLetter (follow n e) (follow n f))) (behind-last n e f)
-      ∙ sym (map-append shiftLetter (follow n e ++ follow n f) (only (last n e) (first f)))
-  follow-shifted n (alt e f) = ap₂ ◌++◌ (follow-shifted n e) (follow-shifted n f) ∙ sym (map-append shiftLetter (follow n e) (follow n f))
-  follow-shifted n (star e) = ap₂ ◌++◌ (follow-shifted n e) (behind-last n e e) ∙ sym (map-append shiftLetter (follow n e) (only (last n e) (first e)))
-  follow-shifted n (pipe e f) = ap₂ ◌++◌ (follow-shifted n e) (follow-shifted n f) ∙ sym (map-append shiftLetter (follow n e) (follow n f))
+      ap₂ ◌++◌ (ap₂ ◌++◌ (follow-shifted n e) (follow-shifted n f) ∙ sym (map-append shift_letter (follow n e) (follow n f))) (behind-last n e f)
+      ∙ sym (map-append shift_letter (follow n e ++ follow n f) (only (last n e) (first f)))
+  follow-shifted n (alt e f) = ap₂ ◌++◌ (follow-shifted n e) (follow-shifted n f) ∙ sym (map-append shift_letter (follow n e) (follow n f))
+  follow-shifted n (star e) = ap₂ ◌++◌ (follow-shifted n e) (behind-last n e e) ∙ sym (map-append shift_letter (follow n e) (only (last n e) (first e)))
+  follow-shifted n (pipe e f) = ap₂ ◌++◌ (follow-shifted n e) (follow-shifted n f) ∙ sym (map-append shift_letter (follow n e) (follow n f))
 
   -- rule 11 asks for no numbers
   closed-shifted : (e : Exp) → Closed e → Closed (shifted e)
@@ -154,43 +154,43 @@ module _ (k : ℕ) where
   closed-shifted (pipe e f) c = (
     λ n x t i.
         let (l, j, p) = last_has n (shifted f) t in
-        let (y, m, q) = map-∈ shiftLetter (letters f) (subst (λ ls. l ∈ ls) (letters-shifted f) j) in
+        let (y, m, q) = map-∈ shift_letter (letters f) (subst (λ ls. l ∈ ls) (letters-shifted f) j) in
         let d : n ≡ k + y.number = sym p ∙ ap (λ z. z.number) (sym q) in
-        let (w, u, v) = map-∈ shiftLetter (follow y.number f) (subst (λ ls. x ∈ ls) (ap (λ z. follow z (shifted f)) d ∙ follow-shifted y.number f) i) in
+        let (w, u, v) = map-∈ shift_letter (follow y.number f) (subst (λ ls. x ∈ ls) (ap (λ z. follow z (shifted f)) d ∙ follow-shifted y.number f) i) in
         c.0 y.number w (subst T (ap (λ z. last z (shifted f)) d ∙ last-shifted y.number f) t) u,
     closed-shifted e c.1,
     closed-shifted f c.2,
   )
 
-  busy-shifted : (ns : List ℕ) (f : Exp) → busy (shiftAll ns) (shifted f) ≡ busy ns f
+  busy-shifted : (ns : List ℕ) (f : Exp) → busy (shift_all ns) (shifted f) ≡ busy ns f
   busy-shifted [] f = refl
   busy-shifted (n ∷ ns) f =
       ap₂ ◌||◌ (ap₂ (λ a b. a && not b) (ap (λ ls. among ls (k + n)) (own-shifted f) ∙ among-shifted n (own f)) (last-shifted n f)) (busy-shifted ns f)
 
   -- ---- entering ----
 
-  shift-met : (n : ℕ) (b : Bool) → cond b (met (k + n)) blocked ≡ shiftEntered (cond b (met n) blocked)
+  shift-met : (n : ℕ) (b : Bool) → cond b (met (k + n)) blocked ≡ shift_entered (cond b (met n) blocked)
   shift-met n true = refl
   shift-met n false = refl
 
-  shift-then : (a b : Entered) → then_enter (shiftEntered a) (shiftEntered b) ≡ shiftEntered (then_enter a b)
+  shift-then : (a b : Entered) → then_enter (shift_entered a) (shift_entered b) ≡ shift_entered (then_enter a b)
   shift-then (met n) b = refl
   shift-then passed b = refl
   shift-then blocked b = refl
 
-  shift-or : (a b : Entered) → or_enter (shiftEntered a) (shiftEntered b) ≡ shiftEntered (or_enter a b)
+  shift-or : (a b : Entered) → or_enter (shift_entered a) (shift_entered b) ≡ shift_entered (or_enter a b)
   shift-or (met n) b = refl
   shift-or passed (met n) = refl
   shift-or passed passed = refl
   shift-or passed blocked = refl
   shift-or blocked b = refl
 
-  shift-star : (a : Entered) → or_pass (shiftEntered a) ≡ shiftEntered (or_pass a)
+  shift-star : (a : Entered) → or_pass (shift_entered a) ≡ shift_entered (or_pass a)
   shift-star (met n) = refl
   shift-star passed = refl
   shift-star blocked = refl
 
-  pub enter-shifted : (e : Exp) (t : Tick) → enter (shifted e) t ≡ shiftEntered (enter e t)
+  pub enter-shifted : (e : Exp) (t : Tick) → enter (shifted e) t ≡ shift_entered (enter e t)
   unfolding enter shifted meets
   enter-shifted (letter l) t = shift-met l.number (meets l t)
   enter-shifted (seq e f) t = ap₂ then_enter (enter-shifted e t) (enter-shifted f t) ∙ shift-then (enter e t) (enter f t)
@@ -200,7 +200,7 @@ module _ (k : ℕ) where
 
   -- ---- ways ----
 
-  shift-goes : (a : Entered) (o : Option (List ℕ)) → goes_by (shiftEntered a) (shift o) ≡ shift (goes_by a o)
+  shift-goes : (a : Entered) (o : Option (List ℕ)) → goes_by (shift_entered a) (shift o) ≡ shift (goes_by a o)
   shift-goes (met n) o = refl
   shift-goes passed o = refl
   shift-goes blocked o = refl
@@ -241,39 +241,39 @@ module _ (k : ℕ) where
       (leave-shifted C B q n e _ _ (joined-like L K (begin C (shifted f)) (begin B f) h (λ u. shift-begin (B f) (C (shifted f)) _ _ (q f) (ask-shifted f over over (λ v. refl) u))) t)
       (leave-shifted C B q n f over over (λ u. refl) t)
 
-  pub goAll-shifted : (X W : ℕ → Way) → ((n : ℕ) → Like (X (k + n)) (W n)) → (ns : List ℕ) (t : Tick) → go_all X (shiftAll ns) t ≡ shift (go_all W ns t)
+  pub go_all-shifted : (X W : ℕ → Way) → ((n : ℕ) → Like (X (k + n)) (W n)) → (ns : List ℕ) (t : Tick) → go_all X (shift_all ns) t ≡ shift (go_all W ns t)
   unfolding go_all
-  goAll-shifted X W h [] t = refl
-  goAll-shifted X W h (n ∷ ns) t = ap₂ joined (h n t) (goAll-shifted X W h ns t) ∙ shift-joined (W n t) (go_all W ns t)
+  go_all-shifted X W h [] t = refl
+  go_all-shifted X W h (n ∷ ns) t = ap₂ joined (h n t) (go_all-shifted X W h ns t) ∙ shift-joined (W n t) (go_all W ns t)
 
-  go-shifted : (m : Exp) (x : Positions) (t : Tick) → go (shifted m) (shiftPositions x) t ≡ shift (go m x t)
+  go-shifted : (m : Exp) (x : Positions) (t : Tick) → go (shifted m) (shift_positions x) t ≡ shift (go m x t)
   unfolding go shifted
   go-shifted m at_start t = ask-shifted (star m) stuck stuck (λ u. refl) t
-  go-shifted m (on ns) t = goAll-shifted _ _ (λ n. leave-shifted (busy (shiftAll ns)) (busy ns) (busy-shifted ns) n (star m) stuck stuck (λ u. refl)) ns t
+  go-shifted m (on ns) t = go_all-shifted _ _ (λ n. leave-shifted (busy (shift_all ns)) (busy ns) (busy-shifted ns) n (star m) stuck stuck (λ u. refl)) ns t
 
   -- ---- letters met ----
 
-  kept-shifted : (m : Exp) (ns : List ℕ) → kept (shifted m) (shiftAll ns) ≡ shiftAll (kept m ns)
+  kept-shifted : (m : Exp) (ns : List ℕ) → kept (shifted m) (shift_all ns) ≡ shift_all (kept m ns)
   unfolding kept
-  kept-shifted m ns = ap (λ ls. each ls (λ l. only (member l.number (shiftAll ns)) (l.number ∷ []))) (letters-shifted m) ∙ over-all (letters m)
+  kept-shifted m ns = ap (λ ls. each ls (λ l. only (member l.number (shift_all ns)) (l.number ∷ []))) (letters-shifted m) ∙ over-all (letters m)
     where
-      one : (o p : Bool) (n : ℕ) (xs : List ℕ) → p ≡ o → only p ((k + n) ∷ []) ++ shiftAll xs ≡ shiftAll (only o (n ∷ []) ++ xs)
+      one : (o p : Bool) (n : ℕ) (xs : List ℕ) → p ≡ o → only p ((k + n) ∷ []) ++ shift_all xs ≡ shift_all (only o (n ∷ []) ++ xs)
       one true p n xs q = rw q
       one false p n xs q = rw q
 
       over-all : (ls : List Letter)
-          → each (map shiftLetter ls) (λ l. only (member l.number (shiftAll ns)) (l.number ∷ [])) ≡ shiftAll (each ls (λ l. only (member l.number ns) (l.number ∷ [])))
+          → each (map shift_letter ls) (λ l. only (member l.number (shift_all ns)) (l.number ∷ [])) ≡ shift_all (each ls (λ l. only (member l.number ns) (l.number ∷ [])))
       over-all [] = refl
-      over-all (l ∷ ls) = ap (λ xs. only (member (k + l.number) (shiftAll ns)) ((k + l.number) ∷ []) ++ xs) (over-all ls)
-          ∙ one (member l.number ns) (member (k + l.number) (shiftAll ns)) l.number _ (member-shifted l.number ns)
+      over-all (l ∷ ls) = ap (λ xs. only (member (k + l.number) (shift_all ns)) ((k + l.number) ∷ []) ++ xs) (over-all ls)
+          ∙ one (member l.number ns) (member (k + l.number) (shift_all ns)) l.number _ (member-shifted l.number ns)
 
-  writeMet-shifted : (t : Tick) (m : Exp) (ns σ : List ℕ) → write_met t (shifted m) (shiftAll ns) σ ≡ write_met t m ns σ
+  write_met-shifted : (t : Tick) (m : Exp) (ns σ : List ℕ) → write_met t (shifted m) (shift_all ns) σ ≡ write_met t m ns σ
   unfolding write_met
-  writeMet-shifted t m ns σ =
-      ap (carry (λ s l. cond (member l.number (shiftAll ns)) (carry (write t) s l.writes) s) σ) (letters-shifted m) ∙ over-all (letters m) σ
+  write_met-shifted t m ns σ =
+      ap (carry (λ s l. cond (member l.number (shift_all ns)) (carry (write t) s l.writes) s) σ) (letters-shifted m) ∙ over-all (letters m) σ
     where
       over-all : (ls : List Letter) (σ : List ℕ)
-          → carry (λ s l. cond (member l.number (shiftAll ns)) (carry (write t) s l.writes) s) σ (map shiftLetter ls)
+          → carry (λ s l. cond (member l.number (shift_all ns)) (carry (write t) s l.writes) s) σ (map shift_letter ls)
           ≡ carry (λ s l. cond (member l.number ns) (carry (write t) s l.writes) s) σ ls
       over-all [] σ = refl
       over-all (l ∷ ls) σ = over-all ls _ ∙ ap (λ o. carry (λ s l. cond (member l.number ns) (carry (write t) s l.writes) s) (cond o (carry (write t) σ l.writes) σ) ls) (member-shifted l.number ns)
@@ -285,7 +285,7 @@ module _ (k j : ℕ) (e : Exp) (ordered : Ordered j e) where
   same-part = renumbered-shifted k (k + j) j e refl ordered
 
   -- literals and writes are as they were
-  pub letters-renumbered : letters (renumbered (k + j) e) ≡ map (shiftLetter k) (letters e)
+  pub letters-renumbered : letters (renumbered (k + j) e) ≡ map (shift_letter k) (letters e)
   letters-renumbered = ap letters same-part ∙ letters-shifted k e
 
   pub ask-renumbered : (L K : Way) → Like k L K → Like k (ask (renumbered (k + j) e) L) (ask e K)
@@ -297,17 +297,17 @@ module _ (k : ℕ) (m : Exp) (ordered : Ordered 0 m) where
   same-monitor : renumbered k m ≡ shifted k m
   same-monitor = renumbered-shifted k k 0 m (omega arith) ordered
 
-  pub go-renumbered : (x : Positions) (t : Tick) → go (renumbered k m) (shiftPositions k x) t ≡ shift k (go m x t)
+  pub go-renumbered : (x : Positions) (t : Tick) → go (renumbered k m) (shift_positions k x) t ≡ shift k (go m x t)
   go-renumbered x t = rw same-monitor (go-shifted k m x t)
 
   pub closed-renumbered : Closed m → Closed (renumbered k m)
   closed-renumbered c = rw same-monitor (closed-shifted k m c)
 
-  pub kept-renumbered : (ns : List ℕ) → kept (renumbered k m) (shiftAll k ns) ≡ shiftAll k (kept m ns)
+  pub kept-renumbered : (ns : List ℕ) → kept (renumbered k m) (shift_all k ns) ≡ shift_all k (kept m ns)
   kept-renumbered ns = rw same-monitor (kept-shifted k m ns)
 
-  pub writeMet-renumbered : (t : Tick) (ns σ : List ℕ) → write_met t (renumbered k m) (shiftAll k ns) σ ≡ write_met t m ns σ
-  writeMet-renumbered t ns σ = rw same-monitor (writeMet-shifted k t m ns σ)
+  pub write_met-renumbered : (t : Tick) (ns σ : List ℕ) → write_met t (renumbered k m) (shift_all k ns) σ ≡ write_met t m ns σ
+  write_met-renumbered t ns σ = rw same-monitor (write_met-shifted k t m ns σ)
 
 -- rule 10 asks for no numbers
 pub renumbered-solid : (k : ℕ) (e : Exp) → Solid e → Solid (renumbered k e)

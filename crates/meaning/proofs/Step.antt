@@ -167,11 +167,11 @@ module _ (G : ℕ → Rest) where
       ∙ each-cong X (λ x. map-map (merge (ns ∷ x)) (λ q. ms ∷ q) Y ∙ sym (map-map (λ q. (ns ++ ms) ∷ q) (merge x) Y))
       ∙ sym (map_each X (λ x. map (merge x) Y) (λ q. (ns ++ ms) ∷ q))
 
-  pub goesOn-both : (q p : Run) (ts : List Tick) → goes_on G (merge q p) ts ≡ both (goes_on G q ts) (goes_on G p ts)
+  pub goes_on-both : (q p : Run) (ts : List Tick) → goes_on G (merge q p) ts ≡ both (goes_on G q ts) (goes_on G p ts)
   unfolding goes_on merge
-  goesOn-both [] p ts = sym (both_left (goes_on G p ts))
-  goesOn-both (ns ∷ q) [] ts = sym (both_right (map (λ q. ns ∷ q) (afters G ns ts)))
-  goesOn-both (ns ∷ q) (ms ∷ p) ts =
+  goes_on-both [] p ts = sym (both_left (goes_on G p ts))
+  goes_on-both (ns ∷ q) [] ts = sym (both_right (map (λ q. ns ∷ q) (afters G ns ts)))
+  goes_on-both (ns ∷ q) (ms ∷ p) ts =
       ap (map (λ r. (ns ++ ms) ∷ r)) (afters-append ns ms ts) ∙ sym (both-map ns ms (afters G ns ts) (afters G ms ts))
 
   pub good-both : (K L : Rest) → Good G K → Good G L → Good G (λ ts. both (K ts) (L ts))
@@ -185,12 +185,12 @@ module _ (G : ℕ → Rest) where
       fwd t ts r (x, y, i, j, p) =
           let (q, iq, xq) = a.to t ts x i in
           let (u, iu, yu) = b.to t ts y j in
-          (merge q u, ∈-both iq iu, ∈-cast p (rw (goesOn-both q u ts) (∈-both xq yu)))
+          (merge q u, ∈-both iq iu, ∈-cast p (rw (goes_on-both q u ts) (∈-both xq yu)))
 
       bwd : (t : Tick) (ts : List Tick) (q r : Run) → (x : Run) × (y : Run) × (x ∈ K (t ∷ [])) × (y ∈ L (t ∷ [])) × (q ≡ merge x y)
           → r ∈ goes_on G q ts → r ∈ both (K (t ∷ ts)) (L (t ∷ ts))
       bwd t ts q r (x, y, i, j, p) m =
-          let (v, w, iv, iw, e) = both-∈ (goes_on G x ts) (goes_on G y ts) (subst (λ l. r ∈ l) (ap (λ z. goes_on G z ts) p ∙ goesOn-both x y ts) m) in
+          let (v, w, iv, iw, e) = both-∈ (goes_on G x ts) (goes_on G y ts) (subst (λ l. r ∈ l) (ap (λ z. goes_on G z ts) p ∙ goes_on-both x y ts) m) in
           ∈-cast e (∈-both (a.from t ts x v i iv) (b.from t ts y w j iw))
 
   pub good-either : (K L : Rest) → Good G K → Good G L → Good G (either K L)

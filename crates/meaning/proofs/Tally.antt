@@ -449,7 +449,7 @@ rows_in-headed : (n r : ℕ) (a b : Bool) (X : List Touch) → r < n → ((x : T
 rows_in-headed n r a b X h above = omega (
   arith,
   rows_in-append n (only a (asked r ∷ [])) (only b (left r ∷ []) ++ X) (λ x i j. ⊎_elim
-      (λ k. clash (ap isOne (sym (one-∈ (only-∈ a i).1) ∙ one-∈ (only-∈ b k).1)))
+      (λ k. clash (ap is_one (sym (one-∈ (only-∈ a i).1) ∙ one-∈ (only-∈ b k).1)))
       (λ k. absurd (omega (arith, above x k, ap row_of (one-∈ (only-∈ a i).1))))
       (append-∈ (only b (left r ∷ [])) j)),
   rows_in-append n (only b (left r ∷ [])) X (λ x i j. absurd (omega (arith, above x j, ap row_of (one-∈ (only-∈ b i).1)))),
@@ -457,9 +457,9 @@ rows_in-headed n r a b X h above = omega (
   rows_in-left n r b h,
 )
   where
-    isOne : Touch → ℕ
-    isOne (asked q) = 0
-    isOne (left q) = 1
+    is_one : Touch → ℕ
+    is_one (asked q) = 0
+    is_one (left q) = 1
 
 -- a touch of a row and what is behind
 headed-∈ : (r : ℕ) (a b : Bool) (X : List Touch) (x : Touch) → x ∈ headed r a b X → (row_of x ≡ r) ⊎ (x ∈ X)
@@ -503,9 +503,9 @@ sweep-between act r (pipe e f) a =
 
 module _ (n : ℕ) (act : ℕ → Bool) where
   -- two operands, the right one asked as c tells
-  rowsIn-two : (r : ℕ) (e f : Exp) (a b c : Bool) → r < n
+  rows_in-two : (r : ℕ) (e f : Exp) (a b c : Bool) → r < n
       → rows_in n (headed r a b (sweep act (suc r) e a ++ sweep act (suc r + rows e) f c)) ≡ one a + one b + (rows_in n (sweep act (suc r) e a) + rows_in n (sweep act (suc r + rows e) f c))
-  rowsIn-two r e f a b c h =
+  rows_in-two r e f a b c h =
       rows_in-headed n r a b (sweep act (suc r) e a ++ sweep act (suc r + rows e) f c) h
       (λ x i. ⊎_elim (λ j. omega (arith, (sweep-between act (suc r) e a x j).0)) (λ j. omega (arith, (sweep-between act (suc r + rows e) f c x j).0)) (append-∈ (sweep act (suc r) e a) i))
       ∙ ap (λ k. one a + one b + k) (rows_in-append n (sweep act (suc r) e a) (sweep act (suc r + rows e) f c)
@@ -517,13 +517,13 @@ module _ (n : ℕ) (act : ℕ → Bool) where
   sweep-tally r (letter l) a h = omega (arith, rows_in-headed n r a (act l.number) [] (omega arith) (λ x i. absurd (no-∈ i)), count-nothing (below n))
   sweep-tally r (seq e f) a h = omega (
     arith,
-    rowsIn-two r e f a (ends act (seq e f) a) (ends act e a) (omega arith),
+    rows_in-two r e f a (ends act (seq e f) a) (ends act e a) (omega arith),
     sweep-tally (suc r) e a (omega arith),
     sweep-tally (suc r + rows e) f (ends act e a) (omega arith),
   )
   sweep-tally r (alt e f) a h = omega (
     arith,
-    rowsIn-two r e f a (ends act (alt e f) a) a (omega arith),
+    rows_in-two r e f a (ends act (alt e f) a) a (omega arith),
     sweep-tally (suc r) e a (omega arith),
     sweep-tally (suc r + rows e) f a (omega arith),
   )
@@ -534,7 +534,7 @@ module _ (n : ℕ) (act : ℕ → Bool) where
   )
   sweep-tally r (pipe e f) a h = omega (
     arith,
-    rowsIn-two r e f a (ends act (pipe e f) a) (ends act e a) (omega arith),
+    rows_in-two r e f a (ends act (pipe e f) a) (ends act e a) (omega arith),
     sweep-tally (suc r) e a (omega arith),
     sweep-tally (suc r + rows e) f (ends act e a) (omega arith),
   )

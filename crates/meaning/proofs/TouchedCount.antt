@@ -23,7 +23,7 @@ use Rattle.meaning.proofs.Watch.{Tracked, AllAccepted}
 use Rattle.meaning.proofs.Counting.{one, ends, tally, tally_after, asked_count, sums_after}
 use Rattle.meaning.proofs.Touching.{touches-start, touches-met}
 use Rattle.meaning.proofs.Tally.{tally-start, tally-met}
-use Rattle.meaning.proofs.Shifted.{shiftLetter, renumbered-shifted, letters-shifted, eqb-shifted}
+use Rattle.meaning.proofs.Shifted.{shift_letter, renumbered-shifted, letters-shifted, eqb-shifted}
 use Rattle.meaning.proofs.CountingLaws.{after-shifted}
 use Rattle.meaning.proofs.Levels.{sums-start, sums-met}
 
@@ -157,7 +157,7 @@ pub alone-most-from : (l : ℕ) (m : Exp) → Ordered 0 m → Accepted m → (n 
 alone-most-from l m o ac n h =
     let s = renumbered-shifted l l 0 m (omega arith) o in
     let (x, i, p) = among-to (letters (renumbered l m)) n h in
-    let (y, j, q) = map-∈ (shiftLetter l) (letters m) (subst (λ ls. x ∈ ls) (ap letters s ∙ letters-shifted l m) i) in
+    let (y, j, q) = map-∈ (shift_letter l) (letters m) (subst (λ ls. x ∈ ls) (ap letters s ∙ letters-shifted l m) i) in
     let d : n ≡ l + y.number = sym p ∙ ap (λ z. z.number) (sym q) in
     let b = alone-most m ac y.number in
     subst (λ (z : ℕ). z ≤ 2 * rows m)

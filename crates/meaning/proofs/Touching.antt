@@ -9,7 +9,7 @@ use native.Mathlib.Omega.{arith}
 use lib.ListN.{length, get_or, length-append}
 use Rattle.meaning.specs.Lists.{each, only, keep, ◌∈◌}
 use Rattle.meaning.specs.Expression.{Letter, Exp, letter, seq, alt, star, pipe, letters, rows}
-use Rattle.meaning.specs.Fit.{Tick, meets, Run, Rest as Runs, past_the_end, anything as anyRun, nothing as no_run, merge, both as bothRuns, either as eitherRuns, rounds as roundRuns, runs, branches as branchRuns, unoccupied, met}
+use Rattle.meaning.specs.Fit.{Tick, meets, Run, Rest as Runs, past_the_end, anything as any_run, nothing as no_run, merge, both as both_runs, either as either_runs, rounds as round_runs, runs, branches as branch_runs, unoccupied, met}
 use Rattle.meaning.specs.Touched.{Touch, asked, left, Branch, Rest, standing, beside, both, either, noting, anything, nothing, rounds, having, reach, branches, touches}
 use Rattle.meaning.proofs.ListLaws.{here, there, no-∈, append-∈, ∈-left, ∈-right, map-∈, one-∈, only-∈, each-∈, each_append, each-cong, each_map, map_each}
 use Rattle.meaning.proofs.OneWay.{Numbered}
@@ -80,14 +80,14 @@ erased-end : (A : List Branch) {X : List Touch} → A ≡ standing X → ran A �
 erased-end A a = ap ran a
 
 -- two at once
-erased-both : (A B : List Branch) → ran (both A B) ≡ bothRuns (ran A) (ran B)
+erased-both : (A B : List Branch) → ran (both A B) ≡ both_runs (ran A) (ran B)
 erased-both A B =
     map_each A (λ a. map (beside a) B) (λ b. b.run)
     ∙ each-cong A (λ a. map-map (λ b. b.run) (beside a) B ∙ sym (map-map (merge a.run) (λ b. b.run) B))
     ∙ sym (each_map A (λ a. a.run) (λ s. map (merge s) (ran B)))
 
 -- one or the other
-erased-either : (K L : Rest) (M N : Runs) {X Y : List Touch} → Border K X → Border L Y → Erased K M → Erased L N → Erased (either K L) (eitherRuns M N)
+erased-either : (K L : Rest) (M N : Runs) {X Y : List Touch} → Border K X → Border L Y → Erased K M → Erased L N → Erased (either K L) (either_runs M N)
 erased-either K L M N k l g h [] = erased-end (both (K []) (L [])) (border-both k l)
 erased-either K L M N k l g h (t ∷ ts) = map-append (λ b. b.run) (K (t ∷ ts)) (L (t ∷ ts)) ∙ ap₂ ◌++◌ (g (t ∷ ts)) (h (t ∷ ts))
 
@@ -101,15 +101,15 @@ abbrev Erases : ℕ → Exp → Type 0
 Erases r e = (K : Rest) (M : Runs) (X : List Touch) → Border K X → Erased K M → Erased (reach r e K) (runs e M)
 
 -- rounds of it
-erased-rounds : (r : ℕ) (e : Exp) → Erases r e → (K : Rest) (M : Runs) (X : List Touch) → Border K X → Erased K M → (n : ℕ) → Erased (rounds (reach r e) K n) (roundRuns (runs e) M n)
-unfolding rounds roundRuns
+erased-rounds : (r : ℕ) (e : Exp) → Erases r e → (K : Rest) (M : Runs) (X : List Touch) → Border K X → Erased K M → (n : ℕ) → Erased (rounds (reach r e) K n) (round_runs (runs e) M n)
+unfolding rounds round_runs
 erased-rounds r e ih K M X k g zero [] = erased-end (both (K []) (reach r e K [])) (border-both k (border r e K k)) ∙ sym (erased-end (K []) k) ∙ g []
 erased-rounds r e ih K M X k g zero (t ∷ ts) = g (t ∷ ts)
 erased-rounds r e ih K M X k g (suc n) [] = erased-end (both (K []) (reach r e K [])) (border-both k (border r e K k))
 erased-rounds r e ih K M X k g (suc n) (t ∷ ts) =
     map-append (λ b. b.run) (K (t ∷ ts)) (reach r e (rounds (reach r e) K n) (t ∷ ts))
     ∙ ap₂ ◌++◌ (g (t ∷ ts))
-    (ih (rounds (reach r e) K n) (roundRuns (runs e) M n) (X ++ asking r e X) (border-rounds (reach r e) K k (border r e K k) n) (erased-rounds r e ih K M X k g n) (t ∷ ts))
+    (ih (rounds (reach r e) K n) (round_runs (runs e) M n) (X ++ asking r e X) (border-rounds (reach r e) K k (border r e K k) n) (erased-rounds r e ih K M X k g n) (t ∷ ts))
 
 -- the branches whose first tick a letter had
 erased-only : (l : Letter) (b : Bool) (A : List Branch) → ran (only b (map (having l) A)) ≡ only b (map (λ s. (l.number ∷ []) ∷ s) (ran A))
@@ -140,23 +140,23 @@ erased r (alt e f) K M X k g =
     let h = erased-noting (left r) K M k g in
     let a = border (suc r) e L l in
     let b = border (suc r + rows e) f L l in
-    erased-noting (asked r) (either (reach (suc r) e L) (reach (suc r + rows e) f L)) (eitherRuns (runs e M) (runs f M)) (border-both a b)
+    erased-noting (asked r) (either (reach (suc r) e L) (reach (suc r + rows e) f L)) (either_runs (runs e M) (runs f M)) (border-both a b)
     (erased-either (reach (suc r) e L) (reach (suc r + rows e) f L) (runs e M) (runs f M) a b (erased (suc r) e L M (left r ∷ X) l h) (erased (suc r + rows e) f L M (left r ∷ X) l h))
 erased r (star e) K M X k g =
     let L = noting (left r) K in
     let l = border-noting (left r) K k in
-    erased-noting (asked r) (λ us. rounds (reach (suc r) e) L (length us) us) (λ us. roundRuns (runs e) M (length us) us) (border-rounds (reach (suc r) e) L l (border (suc r) e L l) 0)
+    erased-noting (asked r) (λ us. rounds (reach (suc r) e) L (length us) us) (λ us. round_runs (runs e) M (length us) us) (border-rounds (reach (suc r) e) L l (border (suc r) e L l) 0)
     (λ us. erased-rounds (suc r) e (erased (suc r) e) L M (left r ∷ X) l (erased-noting (left r) K M k g) (length us) us)
 erased r (pipe e f) K M X k g =
     let L = noting (left r) K in
     let N = reach (suc r + rows e) f anything in
     let n = border-both (border-noting (left r) K k) (border (suc r + rows e) f anything refl) in
-    erased-noting (asked r) (reach (suc r) e (λ us. both (L us) (N us))) (runs e (λ us. bothRuns (M us) (runs f anyRun us))) (border (suc r) e (λ us. both (L us) (N us)) n)
-    (erased (suc r) e (λ us. both (L us) (N us)) (λ us. bothRuns (M us) (runs f anyRun us)) ((left r ∷ X) ++ asking (suc r + rows e) f []) n
-    (λ us. erased-both (L us) (N us) ∙ ap₂ bothRuns (erased-noting (left r) K M k g us) (erased (suc r + rows e) f anything anyRun [] refl (λ vs. refl) us)))
+    erased-noting (asked r) (reach (suc r) e (λ us. both (L us) (N us))) (runs e (λ us. both_runs (M us) (runs f any_run us))) (border (suc r) e (λ us. both (L us) (N us)) n)
+    (erased (suc r) e (λ us. both (L us) (N us)) (λ us. both_runs (M us) (runs f any_run us)) ((left r ∷ X) ++ asking (suc r + rows e) f []) n
+    (λ us. erased-both (L us) (N us) ∙ ap₂ both_runs (erased-noting (left r) K M k g us) (erased (suc r + rows e) f anything any_run [] refl (λ vs. refl) us)))
 
 -- the branches of a monitor
-pub same-branches : (m : Exp) (ts : List Tick) → ran (branches m ts) ≡ branchRuns m ts
+pub same-branches : (m : Exp) (ts : List Tick) → ran (branches m ts) ≡ branch_runs m ts
 unfolding runs
 same-branches m ts = erased-rounds 0 m (erased 0 m) nothing no_run [] refl none (length ts) ts
   where

@@ -13,7 +13,7 @@ use Rattle.meaning.specs.Shape.{nullable}
 use Rattle.meaning.specs.Fit.{Tick}
 use Rattle.meaning.specs.Positions.{Way, stuck, over, joined, Entered, met, passed, blocked, then_enter, or_enter, or_pass, enter, goes_by, ask, busy, begin, leave, on, at_start, go, go_all}
 use Rattle.meaning.specs.Table.{Under, Holds, Kind, is_letter, is_seq, is_alt, is-star, is_pipe, Table}
-use Rattle.meaning.specs.RowWalk.{enter_by, leave_by, enter_row, askRow, leaveRow}
+use Rattle.meaning.specs.RowWalk.{enter_by, leave_by, enter_row, ask_row, leave_row}
 use Rattle.meaning.proofs.ListLaws.{here, there, append-∈, one-∈, is_true, is_false, clash}
 use Rattle.meaning.proofs.Step.{Solid}
 use Rattle.meaning.proofs.Entering.{passed-nullable}
@@ -58,11 +58,11 @@ module _ (shut : ℕ → Bool) (R : Table) (only : ThreadsShut shut R) (place : 
 
   -- from F calls on, leaving row r ends and is K
   abbrev pub Leaves : ℕ → Way → ℕ → Type 0
-  Leaves r K F = (n : ℕ) → F ≤ n → (t : Tick) → LeaveEnds shut n R r t × (leaveRow shut n R r t ≡ K t)
+  Leaves r K F = (n : ℕ) → F ≤ n → (t : Tick) → LeaveEnds shut n R r t × (leave_row shut n R r t ≡ K t)
 
   -- the same of asking it
   abbrev pub Asks : ℕ → Way → ℕ → Type 0
-  Asks r K F = (n : ℕ) → F ≤ n → (t : Tick) → AskEnds shut n R r t × (askRow shut n R r t ≡ K t)
+  Asks r K F = (n : ℕ) → F ≤ n → (t : Tick) → AskEnds shut n R r t × (ask_row shut n R r t ≡ K t)
 
   module _ (r : ℕ) (k : Kind) (is : (R r).kind ≡ k) where
     -- a row is entered: from what its calls do
@@ -76,7 +76,7 @@ module _ (shut : ℕ → Bool) (R : Table) (only : ThreadsShut shut R) (place : 
     -- an operand is left
     leaves-from : (K : Way) (c : ℕ) → Under R r c → (o : Bool) → eqb c (R r).left ≡ o → (F : ℕ)
         → ((n : ℕ) → F ≤ n → (t : Tick) → LeavesBy k o (AskEnds shut n R (R r).right t) (LeaveEnds shut n R r t) (AskEnds shut n R r t)
-        × (leave_by k o (askRow shut n R (R r).right t) (leaveRow shut n R r t) (askRow shut n R r t) ≡ K t))
+        × (leave_by k o (ask_row shut n R (R r).right t) (leave_row shut n R r t) (ask_row shut n R r t) ≡ K t))
         → Leaves c K (suc F)
     leaves-from K c u o p F f zero le = absurd (omega arith)
     leaves-from K c u o p F f (suc n) le = λ t.
@@ -155,9 +155,9 @@ module _ (shut : ℕ → Bool) (R : Table) (only : ThreadsShut shut R) (place : 
       let (i, q) = enter-right e r h n (omega arith) in
       by (shut r) i (q t) (λ p. g (passed-nullable e s t p) n (omega arith) t)
     where
-      by : (c : Bool) → EnterEnds n R r → enter_row shut n R r t ≡ cond c blocked (enter e t) → (enter e t ≡ passed → LeaveEnds shut n R r t × (leaveRow shut n R r t ≡ K t))
-          → AskEnds shut (suc n) R r t × (askRow shut (suc n) R r t ≡ cond c none (ask e K t))
-      by true i q left = ((ask-calls shut R r n t).1 (i, λ p. clash (cc (sym q ∙ p))), ask-once shut R r n t ∙ ap (λ a. goes_by a (leaveRow shut n R r t)) q)
+      by : (c : Bool) → EnterEnds n R r → enter_row shut n R r t ≡ cond c blocked (enter e t) → (enter e t ≡ passed → LeaveEnds shut n R r t × (leave_row shut n R r t ≡ K t))
+          → AskEnds shut (suc n) R r t × (ask_row shut (suc n) R r t ≡ cond c none (ask e K t))
+      by true i q left = ((ask-calls shut R r n t).1 (i, λ p. clash (cc (sym q ∙ p))), ask-once shut R r n t ∙ ap (λ a. goes_by a (leave_row shut n R r t)) q)
       by false i q left = ((ask-calls shut R r n t).1 (i, λ p. (left (sym q ∙ p)).0), ask-once shut R r n t ∙ goes_same (enter e t) q (λ p. (left p).1))
 
   asks-as : (r : ℕ) (c : Bool) (K : Way) (F : ℕ) → shut r ≡ c → Asks r (λ t. cond (shut r) none (K t)) F → Asks r (λ t. cond c none (K t)) F
@@ -175,7 +175,7 @@ module _ (shut : ℕ → Bool) (R : Table) (only : ThreadsShut shut R) (place : 
   leave-right : (B : Exp → Bool) (e : Exp) (r : ℕ) (K : Way) (F : ℕ) → (T (nullable e) → shut r ≡ false) → Shuts shut R B r e → rows e ≤ F → Holds R place r e → Solid e → Numbered e → Leaves r K F
       → (l : Letter) → l ∈ letters e → Leaves (place l.number) (leave B l.number e K) (F + 2 * rows e - 2)
   unfolding leave rows letters nullable
-  leave-right B (letter x) r K F o d b h s a g l i = λ n le. subst (λ z. (t : Tick) → LeaveEnds shut n R z t × (leaveRow shut n R z t ≡ K t)) (sym (ap (λ z. place z.number) (one-∈ i) ∙ h.1)) (g n (omega arith))
+  leave-right B (letter x) r K F o d b h s a g l i = λ n le. subst (λ z. (t : Tick) → LeaveEnds shut n R z t × (leave_row shut n R z t ≡ K t)) (sym (ap (λ z. place z.number) (one-∈ i) ∙ h.1)) (g n (omega arith))
   leave-right B (seq e f) r K F o d b h s a g l i = ⊎_elim
       (λ j n le t.
       let (c, p) = leave-right B e (R r).left (ask f K) (suc (suc (suc F))) (λ y. left_open r h.1) d.0 (omega arith) h.4 s.0 a.1
@@ -217,7 +217,7 @@ module _ (shut : ℕ → Bool) (R : Table) (only : ThreadsShut shut R) (place : 
     unfolding enter
     top-asks n le t = let (e, q) = ask-solid m r stuck false (own_open r own) held solid.1 solid.0 n (omega (arith, a-row m)) t in (e, q ∙ star-stuck (enter m t))
 
-    pub rows_start : (N : ℕ) → 2 * rows m ≤ N → (t : Tick) → askRow shut N R r t ≡ go m at_start t
+    pub rows_start : (N : ℕ) → 2 * rows m ≤ N → (t : Tick) → ask_row shut N R r t ≡ go m at_start t
     unfolding go
     rows_start N b t = (top-asks N b t).1
 
@@ -236,14 +236,14 @@ module _ (shut : ℕ → Bool) (R : Table) (only : ThreadsShut shut R) (place : 
 
       -- so the positions go on over the rows as in the machine
       pub rows-go : (N : ℕ) → 4 * rows m ≤ N → (ns : List ℕ) → ((k : ℕ) → k ∈ ns → Has k m) → Shuts shut R (busy ns) r m
-          → (t : Tick) → go_all (λ n. leaveRow shut N R (place n)) ns t ≡ go m (on ns) t
+          → (t : Tick) → go_all (λ n. leave_row shut N R (place n)) ns t ≡ go m (on ns) t
       unfolding go go_all
       rows-go N b ns w d t = all_go ns w
         where
-          all_go : (ks : List ℕ) → ((k : ℕ) → k ∈ ks → Has k m) → go_all (λ n. leaveRow shut N R (place n)) ks t ≡ go_all (λ n. leave (busy ns) n (star m) stuck) ks t
+          all_go : (ks : List ℕ) → ((k : ℕ) → k ∈ ks → Has k m) → go_all (λ n. leave_row shut N R (place n)) ks t ≡ go_all (λ n. leave (busy ns) n (star m) stuck) ks t
           all_go [] v = refl
           all_go (n ∷ ks) v =
               let (l, i, p) = v n (here refl) in
               ap₂ joined
-              (subst (λ z. leaveRow shut N R (place z) t ≡ leave (busy ns) z (star m) stuck t) p (letter-leaves (busy ns) d l i N b t).1)
+              (subst (λ z. leave_row shut N R (place z) t ≡ leave (busy ns) z (star m) stuck t) p (letter-leaves (busy ns) d l i N b t).1)
               (all_go ks (λ k j. v k (there j)))

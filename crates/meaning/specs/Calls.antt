@@ -90,25 +90,25 @@ module _ {S : Type 0} where
   after_call move s (take w) r = after move s w r
 
   -- W11: "each other one the watch that the call before it left"
-  unfoldable pub repliesFrom : (judge : S → ℕ → Verdict) (move : S → ℕ → S) (wires : ℕ) → State S → List Call → List Reply
-  repliesFrom judge move wires s [] = []
-  repliesFrom judge move wires s (c ∷ cs) =
+  unfoldable pub replies_from : (judge : S → ℕ → Verdict) (move : S → ℕ → S) (wires : ℕ) → State S → List Call → List Reply
+  replies_from judge move wires s [] = []
+  replies_from judge move wires s (c ∷ cs) =
       let r = reply judge wires s (word_of c) in
-      r ∷ repliesFrom judge move wires (after_call move s c r) cs
+      r ∷ replies_from judge move wires (after_call move s c r) cs
 
   -- what the calls leave
-  unfoldable pub stateFrom : (judge : S → ℕ → Verdict) (move : S → ℕ → S) (wires : ℕ) → State S → List Call → State S
-  stateFrom judge move wires s [] = s
-  stateFrom judge move wires s (c ∷ cs) = stateFrom judge move wires (after_call move s c (reply judge wires s (word_of c))) cs
+  unfoldable pub state_from : (judge : S → ℕ → Verdict) (move : S → ℕ → S) (wires : ℕ) → State S → List Call → State S
+  state_from judge move wires s [] = s
+  state_from judge move wires s (c ∷ cs) = state_from judge move wires (after_call move s c (reply judge wires s (word_of c))) cs
 
 -- the replies that the words' meaning fixes, from the limits, the monitors, the first store values and the number of wires;
 -- W11: "the first gets the watch that opening gave"
 abbrev pub replies : List Limit → List Exp → List ℕ → ℕ → List Call → List Reply
-replies ls ms initial wires cs = repliesFrom (judged ls ms) (onward ms) wires (opening (start initial)) cs
+replies ls ms initial wires cs = replies_from (judged ls ms) (onward ms) wires (opening (start initial)) cs
 
 -- and what then stands: the history of the words of ok takes with the store values, their number, and whether a take was bad
 abbrev pub standing : List Limit → List Exp → List ℕ → ℕ → List Call → State History
-standing ls ms initial wires cs = stateFrom (judged ls ms) (onward ms) wires (opening (start initial)) cs
+standing ls ms initial wires cs = state_from (judged ls ms) (onward ms) wires (opening (start initial)) cs
 
 -- ---- the same clauses, of one call and the takes before it ----
 

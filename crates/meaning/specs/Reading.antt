@@ -207,11 +207,11 @@ is_known (some m) = true
 
 -- A new name. X5: "A name to be declared that is declared already, as whatever kind, is refusal 5"; X6: 6 "at the name to be declared, if 64 wires stand already"; X7: 7 at
 -- "the 129th name or the 17th store".
-unfoldable pub new_name : Names → Placed → (noWire full : Bool) → (List ℕ → Step) → Step
-new_name ns t noWire full next =
+unfoldable pub new_name : Names → Placed → (no_wire full : Bool) → (List ℕ → Step) → Step
+new_name ns t no_wire full next =
     on_name t (λ s.
     unless (is_known (lookup s ns.declared)) twice t
-    (unless noWire oversize t
+    (unless no_wire oversize t
     (unless (full || leb 128 (length ns.declared)) crowded t (next s))))
 
 -- by the kind of a name (N1)

@@ -28,12 +28,12 @@ enter_row shut (suc n) R r t = cond (shut r) blocked (enter_by (R r).kind t (ent
 
 -- a row is asked: it is entered, or else left where it can be left at once; a monitor's own row is asked again when it is left
 unfoldable mutual
-  pub askRow : (shut : ℕ → Bool) → ℕ → Table → ℕ → Way
-  askRow shut zero R r t = none
-  askRow shut (suc n) R r t = goes_by (enter_row shut n R r t) (leaveRow shut n R r t)
+  pub ask_row : (shut : ℕ → Bool) → ℕ → Table → ℕ → Way
+  ask_row shut zero R r t = none
+  ask_row shut (suc n) R r t = goes_by (enter_row shut n R r t) (leave_row shut n R r t)
 
-  pub leaveRow : (shut : ℕ → Bool) → ℕ → Table → ℕ → Way
-  leaveRow shut zero R r t = none
-  leaveRow shut (suc n) R r t =
-      cond (eqb (R r).up r) (askRow shut n R r t)
-      (leave_by (R (R r).up).kind (eqb r (R (R r).up).left) (askRow shut n R (R (R r).up).right t) (leaveRow shut n R (R r).up t) (askRow shut n R (R r).up t))
+  pub leave_row : (shut : ℕ → Bool) → ℕ → Table → ℕ → Way
+  leave_row shut zero R r t = none
+  leave_row shut (suc n) R r t =
+      cond (eqb (R r).up r) (ask_row shut n R r t)
+      (leave_by (R (R r).up).kind (eqb r (R (R r).up).left) (ask_row shut n R (R (R r).up).right t) (leave_row shut n R (R r).up t) (ask_row shut n R (R r).up t))

@@ -22,14 +22,14 @@ use Rattle.meaning.specs.Fit as fit
 use Rattle.meaning.specs.Positions as machine
 use Rattle.meaning.specs.Table.{Table}
 use Rattle.meaning.specs.Totals.{totals}
-use Rattle.meaning.specs.Calls.{Call, opening, stateFrom, replies, standing as stood}
+use Rattle.meaning.specs.Calls.{Call, opening, state_from, replies, standing as stood}
 use Rattle.meaning.specs.Opening.{Opened, open_text}
 use Rattle.lexer.proofs.Bools.{left}
 use Rattle.meaning.proofs.ListLaws.{here, there, no-∈, cons-∈, map-∈, ∈-map, clash}
 use Rattle.meaning.proofs.Step.{Solid}
 use Rattle.meaning.proofs.Within.{LetterWithin}
 use Rattle.meaning.proofs.Walk.{a-row}
-use Rattle.meaning.proofs.Shifted.{shiftLetter, letters-renumbered}
+use Rattle.meaning.proofs.Shifted.{shift_letter, letters-renumbered}
 use Rattle.meaning.proofs.OneWay.{Closed}
 use Rattle.meaning.proofs.Watch.{AllAccepted, Tracked, Tracks, opened-tracks, same-verdict}
 use Rattle.meaning.proofs.Watch as watch
@@ -91,7 +91,7 @@ slot_at f z [] j = sym z
 slot_at f z (x ∷ xs) zero = refl
 slot_at f z (x ∷ xs) (suc j) = slot_at f z xs j
 
-letters-at : (l : ℕ) (m : Exp) → Ordered 0 m → letters (renumbered l m) ≡ map (shiftLetter l) (letters m)
+letters-at : (l : ℕ) (m : Exp) → Ordered 0 m → letters (renumbered l m) ≡ map (shift_letter l) (letters m)
 letters-at l m o = let z : l ≡ l + 0 = omega arith in ap (λ (k : ℕ). letters (renumbered k m)) z ∙ letters-renumbered l 0 m o
 
 -- a letter numbered over all monitors is one of its monitor, but for its number
@@ -101,7 +101,7 @@ unfolding numbered_from
 original l [] o m i x j = absurd (no-∈ i)
 original l (k ∷ ms) o m i x j = ⊎_elim
     (λ p.
-    let (y, q, r) = map-∈ (shiftLetter l) (letters k) (subst (λ (xs : List Letter). x ∈ xs) (ap letters p ∙ letters-at l k (o k (here refl))) j) in
+    let (y, q, r) = map-∈ (shift_letter l) (letters k) (subst (λ (xs : List Letter). x ∈ xs) (ap letters p ∙ letters-at l k (o k (here refl))) j) in
     (k, y, here refl, q, ap (λ (z : Letter). z.literals) r, ap (λ (z : Letter). z.writes) r))
     (λ p. let (n, y, q, r, s, t) = original (l + size k) ms (λ z u. o z (there u)) m p x j in (n, y, there q, r, s, t))
     (cons-∈ i)
@@ -180,8 +180,8 @@ module _ (g : Given) (t : Tick) (Q : List ℕ) (pad : List ℕ → List ℕ) (st
   unfolding numbered_from AllWriteAs
   all-write l [] o h = tt
   all-write l (m ∷ ms) o h = (
-    λ x i ρ e. h (renumbered l m) (here refl) (shiftLetter l x)
-        (subst (λ (xs : List Letter). shiftLetter l x ∈ xs) (sym (letters-at l m (o m (here refl)))) (∈-map (shiftLetter l) i)) ρ e,
+    λ x i ρ e. h (renumbered l m) (here refl) (shift_letter l x)
+        (subst (λ (xs : List Letter). shift_letter l x ∈ xs) (sym (letters-at l m (o m (here refl)))) (∈-map (shift_letter l) i)) ρ e,
     all-write (l + size m) ms (λ y i. o y (there i)) (λ y i. h y (there i)),
   )
 
@@ -401,7 +401,7 @@ module _ (text : List ℕ) (o : Opened) (e : open_text text ≡ value o) where
       ∙ same-replies (judge v) (onward v) (judged o.limits o.monitors) (fit.onward o.monitors) Follows judges moves o.wires cs (state_of v) (opening (start o.initial))
       (begins, refl, refl)
 
-  follows : (cs : List Call) → Alike Follows (stateFrom (judge v) (onward v) v.wires (state_of v) cs) (stood o.limits o.monitors o.initial o.wires cs)
+  follows : (cs : List Call) → Alike Follows (state_from (judge v) (onward v) v.wires (state_of v) cs) (stood o.limits o.monitors o.initial o.wires cs)
   unfolding v watch_of
   follows cs =
       same-states (judge v) (onward v) (judged o.limits o.monitors) (fit.onward o.monitors) Follows judges moves o.wires cs (state_of v) (opening (start o.initial))

@@ -28,7 +28,7 @@ use Rattle.words.proofs.Quads.{quad-0, quad-1, quad-2, quad-3}
 use Rattle.rules.specs.Watches.{watch_of}
 use Rattle.counts.specs.Counts.{cost, count_in, nullable_in, seq_cost, alt_cost, cost_of, row_cost, costs_down, costs_of}
 use Rattle.counts.specs.Counts.{operand_place, sibling, row_place, own_of_monitor, own_of_thread, only_operand, letters_before, places_up}
-use Rattle.counts.specs.Counts.{left_of_seq as leftWord, right_of_seq as rightWord, body_of_star as bodyWord}
+use Rattle.counts.specs.Counts.{left_of_seq as left_word, right_of_seq as right_word, body_of_star as body_word}
 use Rattle.monitor.proofs.Stored.{stands_self, front, rear}
 use Rattle.monitor.proofs.Numbered.{program_of, InOrder}
 use Rattle.monitor.proofs.RowWords.{word_of, kind-is, left_is, right_is, up_is}
@@ -318,12 +318,12 @@ key-parts z q false h = let e : z % 2 ≡ 0 = omega (arith, h) in (omega (arith,
 -- of the operands of a row whose place is p
 module _ (y p : ℕ) (c : Place) (n q : ℕ) (g : Exp) (s : RowStored y p c n q g) where
   module _ (e f : Exp) (x z : ℕ) (u : CostIs x e) (v : CostIs z f) where
-    stored-left : Low (left_of_seq e f c) (cond (nullable f) n 0) q e → RowStored x (leftWord p x z) (left_of_seq e f c) (cond (nullable f) n 0) q e
+    stored-left : Low (left_of_seq e f c) (cond (nullable f) n 0) q e → RowStored x (left_word p x z) (left_of_seq e f c) (cond (nullable f) n 0) q e
     stored-left l =
         row-stored x _ _ _ _ (left_of_seq e f c) (cond (nullable f) n 0) q e u (rw (v.0, v.1, s.whole) refl)
         (rw (u.1, v.0, v.1, s.rest, (key-parts (part3 p) q c.begins s.key).1) refl) (rw (v.1, s.chain) refl) s.key l
 
-    stored-right : Low (right_of_seq e f c) n q f → RowStored z (rightWord p z x) (right_of_seq e f c) n q f
+    stored-right : Low (right_of_seq e f c) n q f → RowStored z (right_word p z x) (right_of_seq e f c) n q f
     stored-right l =
         let (i, b) = key-parts (part3 p) q c.begins s.key in
         row-stored z _ _ _ _ (right_of_seq e f c) n q f v (rw s.whole refl) (rw (u.1, v.1, s.rest, b) refl) s.chain (rw (i, b, u.1) refl) l
@@ -333,7 +333,7 @@ module _ (y p : ℕ) (c : Place) (n q : ℕ) (g : Exp) (s : RowStored y p c n q 
     stored-only : (i m : ℕ) → i ≡ m → Low (side_of_alt e c) m q e → RowStored x (only_operand p x i) (side_of_alt e c) m q e
     stored-only i m h l = row-stored x _ _ _ _ (side_of_alt e c) m q e u (rw s.whole refl) (rw (u.1, s.rest, (key-parts (part3 p) q c.begins s.key).1) refl) h s.key l
 
-    stored-body : Low (body_of_star e c) n q e → RowStored x (bodyWord p x) (body_of_star e c) n q e
+    stored-body : Low (body_of_star e c) n q e → RowStored x (body_word p x) (body_of_star e c) n q e
     stored-body l =
         row-stored x _ _ _ _ (body_of_star e c) n q e u (rw (u.0, s.whole) refl) (rw (u.0, u.1, s.rest, (key-parts (part3 p) q c.begins s.key).1) refl) s.chain s.key l
 
@@ -427,30 +427,30 @@ module _ (t : List ℕ) (R : Table) (n : ℕ) (few : n ≤ 1024) (words : (r : �
       (before-for (suc r) r e (omega (arith, h)) a) (before-for (suc r + rows e) r f (omega (arith, h)) b)
 
   -- the place of an operand's row, r', where the operator stands at row r
-  abbrev placeUnder : (r r' : ℕ) → ℕ
-  placeUnder r r' = operand_place (get_or t r 0) (get_or places r 0) (get_or costs r' 0) (get_or costs (sibling (get_or t r 0) r') 0) r r' (letters_before t r')
+  abbrev place_under : (r r' : ℕ) → ℕ
+  place_under r r' = operand_place (get_or t r 0) (get_or places r 0) (get_or costs r' 0) (get_or costs (sibling (get_or t r 0) r') 0) r r' (letters_before t r')
 
-  under : (r r' : ℕ) (e : Exp) → r < r' → r' < n → Stands R r' (laid r' r e) → get_or places r' 0 ≡ placeUnder r r'
+  under : (r r' : ℕ) (e : Exp) → r < r' → r' < n → Stands R r' (laid r' r e) → get_or places r' 0 ≡ place_under r r'
   under r r' e l h s = place-below t costs n r' r few h (up_is R t n few words r' r e h (omega (arith, l, h)) s) l
 
   -- by the operator's kind; i is the row of its other operand, or of its left one
   module _ (r r' : ℕ) where
-    left-of-seq : (i : ℕ) → part0 (get_or t r 0) ≡ 1 → part1 (get_or t r 0) ≡ r' → part2 (get_or t r 0) ≡ i → placeUnder r r' ≡ leftWord (get_or places r 0) (get_or costs r' 0) (get_or costs i 0)
+    left-of-seq : (i : ℕ) → part0 (get_or t r 0) ≡ 1 → part1 (get_or t r 0) ≡ r' → part2 (get_or t r 0) ≡ i → place_under r r' ≡ left_word (get_or places r 0) (get_or costs r' 0) (get_or costs i 0)
     left-of-seq i a b c = rw (a, eq-eqb (part1 (get_or t r 0)) r' b, c) refl
 
-    right-of-seq : (i : ℕ) → part0 (get_or t r 0) ≡ 1 → part1 (get_or t r 0) ≡ i → (i ≡ r' → ⊥) → placeUnder r r' ≡ rightWord (get_or places r 0) (get_or costs r' 0) (get_or costs i 0)
+    right-of-seq : (i : ℕ) → part0 (get_or t r 0) ≡ 1 → part1 (get_or t r 0) ≡ i → (i ≡ r' → ⊥) → place_under r r' ≡ right_word (get_or places r 0) (get_or costs r' 0) (get_or costs i 0)
     right-of-seq i a b c = rw (a, b, ne_eqb i r' c) refl
 
-    side-of-alt : part0 (get_or t r 0) ≡ 2 → placeUnder r r' ≡ only_operand (get_or places r 0) (get_or costs r' 0) (part2 (get_or places r 0))
+    side-of-alt : part0 (get_or t r 0) ≡ 2 → place_under r r' ≡ only_operand (get_or places r 0) (get_or costs r' 0) (part2 (get_or places r 0))
     side-of-alt a = rw a refl
 
-    body-of-star : part0 (get_or t r 0) ≡ 3 → placeUnder r r' ≡ bodyWord (get_or places r 0) (get_or costs r' 0)
+    body-of-star : part0 (get_or t r 0) ≡ 3 → place_under r r' ≡ body_word (get_or places r 0) (get_or costs r' 0)
     body-of-star a = rw a refl
 
-    left-of-pipe : part0 (get_or t r 0) ≡ 4 → part1 (get_or t r 0) ≡ r' → placeUnder r r' ≡ only_operand (get_or places r 0) (get_or costs r' 0) (suc r)
+    left-of-pipe : part0 (get_or t r 0) ≡ 4 → part1 (get_or t r 0) ≡ r' → place_under r r' ≡ only_operand (get_or places r 0) (get_or costs r' 0) (suc r)
     left-of-pipe a b = rw (a, eq-eqb (part1 (get_or t r 0)) r' b) refl
 
-    thread-of-pipe : (i k : ℕ) → part0 (get_or t r 0) ≡ 4 → part1 (get_or t r 0) ≡ i → (i ≡ r' → ⊥) → letters_before t r' ≡ k → placeUnder r r' ≡ own_of_thread (get_or costs r' 0) k
+    thread-of-pipe : (i k : ℕ) → part0 (get_or t r 0) ≡ 4 → part1 (get_or t r 0) ≡ i → (i ≡ r' → ⊥) → letters_before t r' ≡ k → place_under r r' ≡ own_of_thread (get_or costs r' 0) k
     thread-of-pipe i k a b c d = rw (a, b, ne_eqb i r' c, d) refl
 
   -- what is known of the two operands, e and f, of row r, of the kind j
@@ -463,8 +463,8 @@ module _ (t : List ℕ) (R : Table) (n : ℕ) (few : n ≤ 1024) (words : (r : �
     pub f-laid : Stands R (suc r + rows e) (laid (suc r + rows e) r f)
     e-cost : CostIs (get_or costs (suc r) 0) e
     f-cost : CostIs (get_or costs (suc r + rows e) 0) f
-    e-place : get_or places (suc r) 0 ≡ placeUnder r (suc r)
-    f-place : get_or places (suc r + rows e) 0 ≡ placeUnder r (suc r + rows e)
+    e-place : get_or places (suc r) 0 ≡ place_under r (suc r)
+    f-place : get_or places (suc r + rows e) 0 ≡ place_under r (suc r + rows e)
     e-before : letters_before t (suc r) ≡ letters_before t r
     f-before : letters_before t (suc r + rows e) ≡ letters_before t r + size e
 

@@ -10,9 +10,9 @@ use lib.ListN.{length, get_or}
 use Rattle.meaning.specs.Expression.{Exp, size}
 use Rattle.meaning.specs.Fit.{Tick}
 use Rattle.meaning.specs.Positions.{Way, joined, Positions, at_start, on, go_all, go, Ticked, fine, wrong, go_on, go_each}
-use Rattle.meaning.proofs.Shifted.{shift, shiftAll}
+use Rattle.meaning.proofs.Shifted.{shift, shift_all}
 use Rattle.monitor.specs.Letters.{Given}
-use Rattle.monitor.specs.Walk.{Told, told, askM, leaveM}
+use Rattle.monitor.specs.Walk.{Told, told, ask_m, leave_m}
 use Rattle.monitor.specs.Ticks.{steps, Layout, and_then, letters_go, start_goes, monitor_goes, Reached, reached, reached_by, monitors_go}
 use Rattle.monitor.proofs.Memory.{Exactly, Goes, exactly-none, exactly-then, goes_over, goes_then}
 
@@ -40,7 +40,7 @@ joined-over (some ns) = ap some (append-nil ns)
 module _ (Good : List ℕ → Type 0) (g : Given) (t : Tick) (places own marks : List ℕ) where
   -- leaving letter k goes the way W k
   abbrev pub LeavesBy : (ℕ → Way) → ℕ → Type 0
-  LeavesBy W k = (M : List ℕ) → Good M → Goes Good (W k t) M (leaveM steps g (get_or places k 0) M)
+  LeavesBy W k = (M : List ℕ) → Good M → Goes Good (W k t) M (leave_m steps g (get_or places k 0) M)
 
   -- a letter that may be marked (b: it is not), and the letters ks behind it
   one_more : (b : Bool) (W : ℕ → Way) (l : ℕ) (ks : List ℕ) {M : List ℕ} {x : Told} (f : List ℕ → Told) → Good M → Goes Good (W l t) M x
@@ -57,7 +57,7 @@ module _ (Good : List ℕ → Type 0) (g : Given) (t : Tick) (places own marks :
       one_more (eqb (get_or marks l 0) 0) W l (marked_from marks n (suc l)) (letters_go g places marks n (suc l)) p (h l (omega arith) (omega arith) M p)
       (λ N q. letters-go W n (suc l) (λ k a b. h k (omega arith) (omega arith)) N q)
 
-  module _ (S : Way) (W : ℕ → Way) (i n l : ℕ) (asks : (M : List ℕ) → Good M → Goes Good (S t) M (askM steps g (get_or own i 0) M))
+  module _ (S : Way) (W : ℕ → Way) (i n l : ℕ) (asks : (M : List ℕ) → Good M → Goes Good (S t) M (ask_m steps g (get_or own i 0) M))
       (leaves : (k : ℕ) → l ≤ k → k < l + n → LeavesBy W k) where
     pub both_go : (x : Positions) → MarksAre marks i n l x → (M : List ℕ) → Good M
         → Goes Good (go_by S W x t) M (and_then (start_goes g own marks i M) (letters_go g places marks n l))
@@ -72,7 +72,7 @@ module _ (Good : List ℕ → Type 0) (g : Given) (t : Tick) (places own marks :
 unfoldable pub spread : (l : ℕ) → List Exp → List (List ℕ) → List ℕ
 spread l [] nss = []
 spread l (m ∷ ms) [] = []
-spread l (m ∷ ms) (ns ∷ nss) = shiftAll l ns ++ spread (l + size m) ms nss
+spread l (m ∷ ms) (ns ∷ nss) = shift_all l ns ++ spread (l + size m) ms nss
 
 module _ (Good : List ℕ → Type 0) (g : Given) (t : Tick) (y : Layout) (marks : List ℕ) where
   -- each monitor goes as its positions say, from number i and letter l on
@@ -94,7 +94,7 @@ module _ (Good : List ℕ → Type 0) (g : Given) (t : Tick) (y : Layout) (marks
   went_on i n l m ms (some ns) (wrong j) M x f p q = let (u, h) = q x.memory (p.marks tt).good in rw p.yes (u, omega (arith, h))
   went_on i n l m ms (some ns) (fine nss) M x f p q =
       let (u, v) = q x.memory (p.marks tt).good in
-      rw p.yes (omega (arith, u), exactly-then (shiftAll l ns) (spread (l + size m) ms nss) (p.marks tt) v)
+      rw p.yes (omega (arith, u), exactly-then (shift_all l ns) (spread (l + size m) ms nss) (p.marks tt) v)
 
   none-went : (i l : ℕ) (M : List ℕ) → Good M → Went i 0 l [] (fine []) M (reached i M)
   unfolding Went spread

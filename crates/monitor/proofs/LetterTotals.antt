@@ -16,12 +16,12 @@ use Rattle.meaning.specs.Fit.{Tick, History, start, tick, met, onward}
 use Rattle.meaning.specs.Limits.{judged}
 use Rattle.meaning.specs.Totals.{met_from, times_from, totals}
 use Rattle.meaning.specs.Positions.{Positions, at_start, on, kept_each}
-use Rattle.meaning.specs.Calls.{Call, look, take, Reply, ok, bad, refused, reply_of, most_ticks, is_full, is_stray, State, opening, reply, after, stateFrom, standing}
+use Rattle.meaning.specs.Calls.{Call, look, take, Reply, ok, bad, refused, reply_of, most_ticks, is_full, is_stray, State, opening, reply, after, state_from, standing}
 use Rattle.meaning.proofs.ListLaws.{here, there, clash, each-∈, map-∈}
 use Rattle.meaning.proofs.Active.{positions_after}
 use Rattle.meaning.proofs.Monitor.{Accepted, go_counted, same-member, positions-met}
 use Rattle.meaning.proofs.Sets.{Alike}
-use Rattle.meaning.proofs.Shifted.{shiftAll}
+use Rattle.meaning.proofs.Shifted.{shift_all}
 use Rattle.meaning.proofs.Watch.{Tracked}
 use Rattle.meaning.proofs.Totals.{times_snoc, times-few}
 use Rattle.rules.proofs.Placing.{letters-long}
@@ -119,14 +119,14 @@ module _ (K : List ℕ) (l : ℕ) (ns : List ℕ) (f : Letter → ℕ) (few : (x
 
 -- the tick t behind the ticks ts left the marks K: the letters marked are the set of those met
 module _ (K : List ℕ) (ts : List Tick) (t : Tick) where
-  pub marked-met : (l : ℕ) (m : Exp) → Ordered 0 m → Accepted m → (ns : List ℕ) → marked_from K (size m) l ≡ shiftAll l ns
+  pub marked-met : (l : ℕ) (m : Exp) → Ordered 0 m → Accepted m → (ns : List ℕ) → marked_from K (size m) l ≡ shift_all l ns
       → (y : Positions) → positions_after (go_counted m) at_start (ts ++ t ∷ []) ≡ some y → Alike (on ns) y → (x : Letter) → x ∈ letters m → marked K (l + x.number) ≡ member x.number (met m ts t)
   marked-met l m o ac ns e at_start p a x i = absurd a
   marked-met l m o ac ns e (on qs) p a x i = same_met K l m o ns e x i ∙ same-member ns qs a.0 a.1 x.number ∙ sym (positions-met m ac ts t qs p x.number)
 
 -- so each has one more
 module _ (K : List ℕ) (ts : List Tick) (t : Tick) (few : suc (length ts) < 4294967296) where
-  monitor-raised : (l : ℕ) (m : Exp) → Ordered 0 m → Accepted m → (ns : List ℕ) → marked_from K (size m) l ≡ shiftAll l ns
+  monitor-raised : (l : ℕ) (m : Exp) → Ordered 0 m → Accepted m → (ns : List ℕ) → marked_from K (size m) l ≡ shift_all l ns
       → (y : Positions) → positions_after (go_counted m) at_start (ts ++ t ∷ []) ≡ some y → Alike (on ns) y → raised K l (times_from m [] ts) ≡ times_from m [] (ts ++ t ∷ [])
   monitor-raised l m o ac ns e y p a =
       let z : l ≡ l + 0 = omega arith in
@@ -199,8 +199,8 @@ module _ (ls : List Limit) (ms : List Exp) (wires : ℕ) where
   few-after s f w (bad m) p = f
   few-after s f w (refused n q) p = f
 
-  few-from : (s : State History) → Few s → (cs : List Call) → Few (stateFrom (judged ls ms) (onward ms) wires s cs)
-  unfolding stateFrom
+  few-from : (s : State History) → Few s → (cs : List Call) → Few (state_from (judged ls ms) (onward ms) wires s cs)
+  unfolding state_from
   few-from s f [] = f
   few-from s f (look w ∷ cs) = few-from s f cs
   few-from s f (take w ∷ cs) = few-from _ (few-after s f w (reply (judged ls ms) wires s w) refl) cs

@@ -13,12 +13,12 @@ use lib.Seq.{get_or-set_same, get_or-set_other}
 use Rattle.meaning.specs.Fit.{Tick, meets}
 use Rattle.meaning.specs.Positions.{joined, Entered, met, passed, blocked, then_enter, or_enter, or_pass, goes_by}
 use Rattle.meaning.specs.Table.{Under, Kind, is_letter, is_seq, is_alt, is-star, is_pipe, Table}
-use Rattle.meaning.specs.RowWalk.{enter_by, leave_by, enter_row, askRow, leaveRow}
+use Rattle.meaning.specs.RowWalk.{enter_by, leave_by, enter_row, ask_row, leave_row}
 use Rattle.lexer.proofs.Bools.{eqb-sym}
 use Rattle.meaning.proofs.ListLaws.{here, one-∈, is_false}
 use Rattle.meaning.proofs.Ends.{EntersBy, LeavesBy, EnterEnds, AskEnds, LeaveEnds, goes_same, ends-enter, enter-calls, enter-unfolds, ask-unfolds, passes_on, leave-calls, leave-unfolds, own-calls, own-unfolds}
 use Rattle.monitor.specs.Letters.{Given}
-use Rattle.monitor.specs.Walk.{Came, came, told, Entry, Call, or_pass_code, or_enter_code, enter_on, remembered_entry, enter_m, ask_from, both, leave_to, leave_on, askM, leaveM}
+use Rattle.monitor.specs.Walk.{Came, came, told, Entry, Call, or_pass_code, or_enter_code, enter_on, remembered_entry, enter_m, ask_from, both, leave_to, leave_on, ask_m, leave_m}
 use Rattle.monitor.proofs.Coded.{CodedAs, Coded}
 use Rattle.monitor.proofs.Memory.{after-set, Rows, rows_of, entered-lit, Marked, Kept, Memory, Exactly, Enters, Goes, exactly-same, exactly-none, exactly-then, exactly-swapped, goes-not, goes_over}
 
@@ -131,10 +131,10 @@ module _ (shut : ℕ → Bool) (R : Table) (g : Given) (t : Tick) (n : ℕ) (cod
   EnterRight f r = (M : List ℕ) → Good M → Enters Good (enter_row shut N R r t) M (f r M)
 
   abbrev AskRight : Call → ℕ → Type 0
-  AskRight f r = (M : List ℕ) → Good M → Goes Good (askRow shut N R r t) M (f r M)
+  AskRight f r = (M : List ℕ) → Good M → Goes Good (ask_row shut N R r t) M (f r M)
 
   abbrev LeaveRight : Call → ℕ → Type 0
-  LeaveRight f r = (M : List ℕ) → Good M → Goes Good (leaveRow shut N R r t) M (f r M)
+  LeaveRight f r = (M : List ℕ) → Good M → Goes Good (leave_row shut N R r t) M (f r M)
 
   -- what is kept, or else what f comes to, which is kept from then on
   entry-remembered : (f : Entry) (r : ℕ) → r < n → (shut r ≡ false → EnterRight f r) → EnterRight (remembered_entry f) r
@@ -150,37 +150,37 @@ module _ (shut : ℕ → Bool) (R : Table) (g : Given) (t : Tick) (n : ℕ) (cod
   -- ---- one call by its row's kind, where the calls that it makes are right; a, b, c: what is known of each
 
   -- a row of kind k is entered
-  enterOn-right : (enter : Entry) (k : Kind) (left right x : ℕ) {a b : Type 0} → CodedAs g t n left right x k
+  enter_on-right : (enter : Entry) (k : Kind) (left right x : ℕ) {a b : Type 0} → CodedAs g t n left right x k
       → (left < n → a → EnterRight enter left) → (right < n → b → EnterRight enter right) → EntersBy k a b
       → (M : List ℕ) → Good M → Enters Good (enter_by k t (enter_row shut N R left t) (enter_row shut N R right t)) M (enter_on g enter x M)
   unfolding enter_on
-  enterOn-right enter (is_letter l) left right x c f h e M m =
+  enter_on-right enter (is_letter l) left right x c f h e M m =
       rw (c.0, c.1, c.3, lt-leb 256 l.number c.2) (letter-right shut (rows_of shut N R t) lit n coded.few l.number c.2 (meets l t) m)
-  enterOn-right enter is_seq left right x c f h e M m =
+  enter_on-right enter is_seq left right x c f h e M m =
       let p = f c.3 e.0 M m in
       rw (c.0, c.1, c.2) (enter-then (enter_row shut N R left t) p (h c.4 e.1 (enter left M).memory p.marks.good))
-  enterOn-right enter is_alt left right x c f h e M m =
+  enter_on-right enter is_alt left right x c f h e M m =
       let p = f c.3 e.0 M m in
       rw (c.0, c.1, c.2) (enter-or (enter_row shut N R left t) (enter_row shut N R right t) p (h c.4 e.1 (enter left M).memory p.marks.good))
-  enterOn-right enter is-star left right x c f h e M m = rw (c.0, c.1) (enter-star (enter_row shut N R left t) (f c.2 e M m))
-  enterOn-right enter is_pipe left right x c f h e M m = rw (c.0, c.1) (f c.3 e M m)
+  enter_on-right enter is-star left right x c f h e M m = rw (c.0, c.1) (enter-star (enter_row shut N R left t) (f c.2 e M m))
+  enter_on-right enter is_pipe left right x c f h e M m = rw (c.0, c.1) (f c.3 e M m)
 
   -- an operand of row u, of kind k, is left; o: it is the left one
-  leaveTo-right : (enter : Entry) (ask leave : Call) (k : Kind) (o : Bool) (left right x u r : ℕ) {a b c : Type 0} → eqb r left ≡ o → CodedAs g t n left right x k
+  leave_to-right : (enter : Entry) (ask leave : Call) (k : Kind) (o : Bool) (left right x u r : ℕ) {a b c : Type 0} → eqb r left ≡ o → CodedAs g t n left right x k
       → (right < n → a → AskRight ask right) → (b → LeaveRight leave u) → (c → AskRight ask u)
-      → (k ≡ is_pipe → o ≡ true → right < n → a → EnterRight enter right × (askRow shut N R right t ≡ goes_by (enter_row shut N R right t) (some []))) → LeavesBy k o a b c
-      → (M : List ℕ) → Good M → Goes Good (leave_by k o (askRow shut N R right t) (leaveRow shut N R u t) (askRow shut N R u t)) M (leave_to enter ask leave x u r M)
+      → (k ≡ is_pipe → o ≡ true → right < n → a → EnterRight enter right × (ask_row shut N R right t ≡ goes_by (enter_row shut N R right t) (some []))) → LeavesBy k o a b c
+      → (M : List ℕ) → Good M → Goes Good (leave_by k o (ask_row shut N R right t) (leave_row shut N R u t) (ask_row shut N R u t)) M (leave_to enter ask leave x u r M)
   unfolding leave_to
-  leaveTo-right enter ask leave (is_letter l) o left right x u r d c f h i j e M m = rw c.0 (goes-not refl)
-  leaveTo-right enter ask leave is_seq true left right x u r d c f h i j e M m = rw (c.0, c.1, c.2, eqb-sym left r, d) (f c.4 e M m)
-  leaveTo-right enter ask leave is_seq false left right x u r d c f h i j e M m = rw (c.0, c.1, eqb-sym left r, d) (h e M m)
-  leaveTo-right enter ask leave is_alt o left right x u r d c f h i j e M m = rw c.0 (h e M m)
-  leaveTo-right enter ask leave is-star o left right x u r d c f h i j e M m = rw c.0 (i e M m)
-  leaveTo-right enter ask leave is_pipe true left right x u r d c f h i j e M m =
+  leave_to-right enter ask leave (is_letter l) o left right x u r d c f h i j e M m = rw c.0 (goes-not refl)
+  leave_to-right enter ask leave is_seq true left right x u r d c f h i j e M m = rw (c.0, c.1, c.2, eqb-sym left r, d) (f c.4 e M m)
+  leave_to-right enter ask leave is_seq false left right x u r d c f h i j e M m = rw (c.0, c.1, eqb-sym left r, d) (h e M m)
+  leave_to-right enter ask leave is_alt o left right x u r d c f h i j e M m = rw c.0 (h e M m)
+  leave_to-right enter ask leave is-star o left right x u r d c f h i j e M m = rw c.0 (i e M m)
+  leave_to-right enter ask leave is_pipe true left right x u r d c f h i j e M m =
       let (p, q) = j refl refl c.4 e.1 in
       let s = p M m in
-      rw (c.0, c.1, c.2, eqb-sym left r, d, q) (enter-both (enter_row shut N R right t) (leaveRow shut N R u t) leave u s (h e.0 (enter right M).memory s.marks.good))
-  leaveTo-right enter ask leave is_pipe false left right x u r d c f h i j e M m = rw (c.0, c.1, eqb-sym left r, d) (goes_over m)
+      rw (c.0, c.1, c.2, eqb-sym left r, d, q) (enter-both (enter_row shut N R right t) (leave_row shut N R u t) leave u s (h e.0 (enter right M).memory s.marks.good))
+  leave_to-right enter ask leave is_pipe false left right x u r d c f h i j e M m = rw (c.0, c.1, eqb-sym left r, d) (goes_over m)
 
   -- ---- entering row r, k calls deep: where they are enough, it comes to what it does in the table
 
@@ -190,14 +190,14 @@ module _ (shut : ℕ → Bool) (R : Table) (g : Given) (t : Tick) (n : ℕ) (cod
   enters-right (suc k) r h e le =
       entry-remembered (λ q. enter_on g (enter_m k g) (get_or g.table q 0)) r h (λ u M m.
       rw (enter-unfolds shut R r (R r).kind refl (suc k) N e le t, u)
-      (enterOn-right (enter_m k g) (R r).kind (R r).left (R r).right (get_or g.table r 0) (coded.rows r h).coded
+      (enter_on-right (enter_m k g) (R r).kind (R r).left (R r).right (get_or g.table r 0) (coded.rows r h).coded
       (λ j w. enters-right k (R r).left j w (omega arith)) (λ j w. enters-right k (R r).right j w (omega arith)) ((enter-calls shut R r (R r).kind refl k).0 e) M m))
 
   -- ---- leaving row r, where the calls that it makes are right with one call fewer; u is the row above it
 
   -- of row i, which is the thread of the `@` in row u: where entering it passes, it has ended
   thread-asked : (u i : ℕ) → (R u).kind ≡ is_pipe → Under R u i → (i ≡ (R u).left → ⊥) → (k : ℕ) → AskEnds shut k R i t → k ≤ N
-      → EnterEnds k R i × (askRow shut N R i t ≡ goes_by (enter_row shut N R i t) (some []))
+      → EnterEnds k R i × (ask_row shut N R i t ≡ goes_by (enter_row shut N R i t) (some []))
   unfolding AskEnds
   thread-asked u i is under d zero e le = absurd e
   thread-asked u i is under d (suc k) e le = (
@@ -212,7 +212,7 @@ module _ (shut : ℕ → Bool) (R : Table) (g : Given) (t : Tick) (n : ℕ) (cod
       (e : LeaveEnds shut (suc k) R r t) (u : ℕ) (up : (R r).up ≡ u) (above : u < n) where
     -- an `@` whose left operand it is has a thread
     thread-right : (R u).kind ≡ is_pipe → eqb r (R u).left ≡ true → (R u).right < n → AskEnds shut k R (R u).right t
-        → EnterRight enter (R u).right × (askRow shut N R (R u).right t ≡ goes_by (enter_row shut N R (R u).right t) (some []))
+        → EnterRight enter (R u).right × (ask_row shut N R (R u).right t ≡ goes_by (enter_row shut N R (R u).right t) (some []))
     thread-right is o h w =
         let (p, q, s) = (coded.rows u above).threaded is in
         let v : (R (R u).left).up ≡ u = ap (λ i. (R i).up) (sym (eqb-true r (R u).left o)) ∙ up in
@@ -223,7 +223,7 @@ module _ (shut : ℕ → Bool) (R : Table) (g : Given) (t : Tick) (n : ℕ) (cod
     operand-right : (r ≡ u → ⊥) → LeaveRight (leave_to enter ask leave (get_or g.table u 0) u) r
     operand-right d M m =
         rw (leave-unfolds shut R u r (R u).kind refl (up, d) (eqb r (R u).left) refl (suc k) N t e enough)
-        (leaveTo-right enter ask leave (R u).kind (eqb r (R u).left) (R u).left (R u).right (get_or g.table u 0) u r refl
+        (leave_to-right enter ask leave (R u).kind (eqb r (R u).left) (R u).left (R u).right (get_or g.table u 0) u r refl
         (coded.rows u above).coded (asks (R u).right) (leaves u above) (asks u above) thread-right
         ((leave-calls shut R u r (R u).kind refl (up, d) (eqb r (R u).left) refl k t).0 e) M m)
 
@@ -232,27 +232,27 @@ module _ (shut : ℕ → Bool) (R : Table) (g : Given) (t : Tick) (n : ℕ) (cod
     unfolding leave_on
     either-right M m = go (eqb u r) refl
       where
-        go : (o : Bool) → eqb u r ≡ o → Goes Good (leaveRow shut N R r t) M (cond o (ask r M) (cond (leb 1024 u) (told false M) (leave_to enter ask leave (get_or g.table u 0) u r M)))
+        go : (o : Bool) → eqb u r ≡ o → Goes Good (leave_row shut N R r t) M (cond o (ask r M) (cond (leb 1024 u) (told false M) (leave_to enter ask leave (get_or g.table u 0) u r M)))
         go true z =
             let own = up ∙ eqb-true u r z in
             rw (own-unfolds shut R r own (suc k) N t e enough) (asks r below ((own-calls shut R r own k t).0 e) M m)
         go false z = rw (lt-leb 1024 u (omega (arith, coded.few))) (operand-right (λ d. eqb-false u r z (sym d)) M m)
 
   mutual
-    unfolding askM AskEnds
+    unfolding ask_m AskEnds
 
     -- asking row r
-    pub asks-right : (k r : ℕ) → r < n → AskEnds shut k R r t → k ≤ N → AskRight (askM k g) r
+    pub asks-right : (k r : ℕ) → r < n → AskEnds shut k R r t → k ≤ N → AskRight (ask_m k g) r
     asks-right zero r h e le = absurd e
     asks-right (suc k) r h e le = λ M m.
         let p = enters-right k r h e.0 (omega arith) M m in
         rw (ask-unfolds shut R r (suc k) N t e le)
-        (ask-from (enter_row shut N R r t) (leaveM k g) r p (λ q. leaves-right k r h (passes_on shut R r k N t e (omega arith) q) (omega arith) (enter_m k g r M).memory p.marks.good))
+        (ask-from (enter_row shut N R r t) (leave_m k g) r p (λ q. leaves-right k r h (passes_on shut R r k N t e (omega arith) q) (omega arith) (enter_m k g r M).memory p.marks.good))
 
     -- leaving it
-    pub leaves-right : (k r : ℕ) → r < n → LeaveEnds shut k R r t → k ≤ N → LeaveRight (leaveM k g) r
+    pub leaves-right : (k r : ℕ) → r < n → LeaveEnds shut k R r t → k ≤ N → LeaveRight (leave_m k g) r
     leaves-right zero r h e le = absurd e
     leaves-right (suc k) r h e le = λ M m.
         rw (lt-leb 1024 r (omega (arith, coded.few)), (coded.rows r h).up)
-        (either-right (enter_m k g) (askM k g) (leaveM k g) k r h le (λ i j w. enters-right k i j w (omega arith)) (λ i j w. asks-right k i j w (omega arith))
+        (either-right (enter_m k g) (ask_m k g) (leave_m k g) k r h le (λ i j w. enters-right k i j w (omega arith)) (λ i j w. asks-right k i j w (omega arith))
         (λ i j w. leaves-right k i j w (omega arith)) e (R r).up refl (coded.rows r h).up_within M m)

@@ -14,16 +14,16 @@ use Rattle.meaning.specs.Expression.{Letter, Exp, star, letters, size, rows, ren
 use Rattle.meaning.specs.Fit.{Tick}
 use Rattle.meaning.specs.Positions.{stuck, busy, leave, Positions, at_start, on, go}
 use Rattle.meaning.specs.Table.{Table, Holds}
-use Rattle.meaning.specs.RowWalk.{askRow, leaveRow}
+use Rattle.meaning.specs.RowWalk.{ask_row, leave_row}
 use Rattle.meaning.proofs.ListLaws.{here, there}
 use Rattle.meaning.proofs.Step.{Solid}
 use Rattle.meaning.proofs.Ends.{AskEnds, LeaveEnds}
 use Rattle.meaning.proofs.Walk.{ThreadsShut, Shuts, top-asks, letter-leaves}
 use Rattle.meaning.proofs.Numbering.{renumbered-size, renumbered-rows, renumbered-ordered, numbered}
-use Rattle.meaning.proofs.Shifted.{shift, shiftPositions, go-renumbered, renumbered-solid}
+use Rattle.meaning.proofs.Shifted.{shift, shift_positions, go-renumbered, renumbered-solid}
 use Rattle.rules.proofs.Placing.{letters-long}
 use Rattle.monitor.specs.Letters.{Given}
-use Rattle.monitor.specs.Walk.{askM, leaveM}
+use Rattle.monitor.specs.Walk.{ask_m, leave_m}
 use Rattle.monitor.specs.Ticks.{steps, Layout, letters_end, monitor_goes}
 use Rattle.monitor.proofs.Memory.{Goes}
 use Rattle.monitor.proofs.Going.{MarksAre, go_by, both_go, AllGo}
@@ -58,8 +58,8 @@ pub record Standing (R : Table) (places : List ℕ) (y : Layout) (n i r l : ℕ)
   pub end : letters_end y.firsts y.monitors y.letters i ≡ l + size m
 
 module _ (Good : List ℕ → Type 0) (g : Given) (t : Tick) (shut : ℕ → Bool) (R : Table) (threads : ThreadsShut shut R) (n : ℕ) (y : Layout) (marks : List ℕ)
-    (asks : (r : ℕ) → r < n → AskEnds shut steps R r t → (M : List ℕ) → Good M → Goes Good (askRow shut steps R r t) M (askM steps g r M))
-    (leaves : (r : ℕ) → r < n → LeaveEnds shut steps R r t → (M : List ℕ) → Good M → Goes Good (leaveRow shut steps R r t) M (leaveM steps g r M)) where
+    (asks : (r : ℕ) → r < n → AskEnds shut steps R r t → (M : List ℕ) → Good M → Goes Good (ask_row shut steps R r t) M (ask_m steps g r M))
+    (leaves : (r : ℕ) → r < n → LeaveEnds shut steps R r t → (M : List ℕ) → Good M → Goes Good (leave_row shut steps R r t) M (leave_m steps g r M)) where
   module _ (i r l : ℕ) (m : Exp) (s : Standing R y.places y n i r l m) (ordered : Ordered 0 m) (solid : Solid (star m)) where
     abbrev place : ℕ → ℕ
     place k = get_or y.places k 0
@@ -68,14 +68,14 @@ module _ (Good : List ℕ → Type 0) (g : Given) (t : Tick) (shut : ℕ → Boo
     unfolding renumbered
     solid' = renumbered-solid l (star m) solid
 
-    start-way : (M : List ℕ) → Good M → Goes Good (go (renumbered l m) at_start t) M (askM steps g (get_or y.own i 0) M)
+    start-way : (M : List ℕ) → Good M → Goes Good (go (renumbered l m) at_start t) M (ask_m steps g (get_or y.own i 0) M)
     unfolding go
     start-way M p =
         let (e, q) = top-asks shut R threads place r (renumbered l m) s.held solid' s.top steps (let z = renumbered-rows l m in let f = s.few in omega (arith, z, f)) t in
         rw s.row (rw q at (asks r s.within e M p))
 
     letter-way : (B : Exp → Bool) → Shuts shut R B r (renumbered l m) → (k : ℕ) → l ≤ k → k < l + size m → (M : List ℕ) → Good M
-        → Goes Good (leave B k (star (renumbered l m)) stuck t) M (leaveM steps g (get_or y.places k 0) M)
+        → Goes Good (leave B k (star (renumbered l m)) stuck t) M (leave_m steps g (get_or y.places k 0) M)
     letter-way B c k a b M p =
         let o = renumbered-ordered l m in
         let z = renumbered-size l m in
@@ -85,16 +85,16 @@ module _ (Good : List ℕ → Type 0) (g : Given) (t : Tick) (shut : ℕ → Boo
         (let u = renumbered-rows l m in let f = s.few in omega (arith, u, f)) t in
         rw (← h) (rw q at (leaves (place x.number) (rw h (s.letters_within k a b)) e M p))
 
-    pub monitor-goes : (x : Positions) → MarksAre marks i (size m) l (shiftPositions l x) → Shuts shut R (busy (active (shiftPositions l x))) r (renumbered l m) → (M : List ℕ) → Good M
+    pub monitor-goes : (x : Positions) → MarksAre marks i (size m) l (shift_positions l x) → Shuts shut R (busy (active (shift_positions l x))) r (renumbered l m) → (M : List ℕ) → Good M
         → Goes Good (shift l (go m x t)) M (monitor_goes g y marks i M)
     unfolding monitor_goes go
     monitor-goes x h b M p =
         let c : letters_end y.firsts y.monitors y.letters i - get_or y.firsts i 0 ≡ size m
         = (let e = s.end in let f = s.first in omega (arith, e, f)) in
-        subst (λ (a : Option (List ℕ)). Goes Good a M (monitor_goes g y marks i M)) (same (shiftPositions l x) ∙ go-renumbered l m ordered x t)
+        subst (λ (a : Option (List ℕ)). Goes Good a M (monitor_goes g y marks i M)) (same (shift_positions l x) ∙ go-renumbered l m ordered x t)
         (rw (c, s.first)
-        (both_go Good g t y.places y.own marks (go (renumbered l m) at_start) (λ k. leave (busy (active (shiftPositions l x))) k (star (renumbered l m)) stuck) i (size m) l start-way (letter-way (busy (active (shiftPositions l x))) b)
-        (shiftPositions l x) h M p))
+        (both_go Good g t y.places y.own marks (go (renumbered l m) at_start) (λ k. leave (busy (active (shift_positions l x))) k (star (renumbered l m)) stuck) i (size m) l start-way (letter-way (busy (active (shift_positions l x))) b)
+        (shift_positions l x) h M p))
       where
         same : (z : Positions) → go_by (go (renumbered l m) at_start) (λ k. leave (busy (active z)) k (star (renumbered l m)) stuck) z t ≡ go (renumbered l m) z t
         same at_start = refl
@@ -104,7 +104,7 @@ module _ (Good : List ℕ → Type 0) (g : Given) (t : Tick) (shut : ℕ → Boo
 unfoldable pub AllShut : (shut : ℕ → Bool) → Table → (r l : ℕ) → List Exp → List Positions → Type 0
 AllShut shut R r l [] xs = Unit {0}
 AllShut shut R r l (m ∷ ms) [] = Unit {0}
-AllShut shut R r l (m ∷ ms) (x ∷ xs) = Shuts shut R (busy (active (shiftPositions l x))) r (renumbered l m) × AllShut shut R (r + rows m) (l + size m) ms xs
+AllShut shut R r l (m ∷ ms) (x ∷ xs) = Shuts shut R (busy (active (shift_positions l x))) r (renumbered l m) × AllShut shut R (r + rows m) (l + size m) ms xs
 
 -- all monitors, from number i, row r and letter l on
 unfoldable pub AllStanding : Table → (places : List ℕ) → Layout → (n i r l : ℕ) → List Exp → Type 0
@@ -112,8 +112,8 @@ AllStanding R places y n i r l [] = Unit {0}
 AllStanding R places y n i r l (m ∷ ms) = Standing R places y n i r l m × AllStanding R places y n (suc i) (r + rows m) (l + size m) ms
 
 module _ (Good : List ℕ → Type 0) (g : Given) (t : Tick) (shut : ℕ → Bool) (R : Table) (threads : ThreadsShut shut R) (n : ℕ) (y : Layout) (marks : List ℕ)
-    (asks : (r : ℕ) → r < n → AskEnds shut steps R r t → (M : List ℕ) → Good M → Goes Good (askRow shut steps R r t) M (askM steps g r M))
-    (leaves : (r : ℕ) → r < n → LeaveEnds shut steps R r t → (M : List ℕ) → Good M → Goes Good (leaveRow shut steps R r t) M (leaveM steps g r M)) where
+    (asks : (r : ℕ) → r < n → AskEnds shut steps R r t → (M : List ℕ) → Good M → Goes Good (ask_row shut steps R r t) M (ask_m steps g r M))
+    (leaves : (r : ℕ) → r < n → LeaveEnds shut steps R r t → (M : List ℕ) → Good M → Goes Good (leave_row shut steps R r t) M (leave_m steps g r M)) where
   pub all_go : (i r l : ℕ) (ms : List Exp) (xs : List Positions) → AllStanding R y.places y n i r l ms → ((m : Exp) → m ∈ ms → Ordered 0 m × Solid (star m))
       → MarksAll marks i l ms xs → AllShut shut R r l ms xs → AllGo Good g t y marks i l ms xs
   unfolding AllStanding MarksAll AllShut AllGo

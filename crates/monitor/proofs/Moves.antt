@@ -12,7 +12,7 @@ use Rattle.meaning.specs.Expression.{Letter, Exp, letter, seq, alt, star, pipe, 
 use Rattle.meaning.specs.Fit.{Tick, write, write_met}
 use Rattle.meaning.specs.Positions.{Positions, kept, kept_each, write_each}
 use Rattle.meaning.proofs.ListLaws.{here, there, clash, no-∈, append-∈, ∈-left, ∈-right, map-∈, ∈-map, ∈-member, member-∈, same_truth}
-use Rattle.meaning.proofs.Shifted.{shiftAll, shiftPositions}
+use Rattle.meaning.proofs.Shifted.{shift_all, shift_positions}
 use Rattle.rules.proofs.Placing.{letters-long}
 use Rattle.monitor.specs.Letters.{Given, write_letter}
 use Rattle.monitor.specs.Ticks.{each_marked, write_if, write_marked}
@@ -52,7 +52,7 @@ MarkedAs K l n ns = (i : ℕ) → i < n → eqb (get_or K (l + i) 0) 0 ≡ not (
 
 module _ (K : List ℕ) (l : ℕ) (ns : List ℕ) where
   pub marks-kept : (j : ℕ) (xs : List Letter) → Counted j xs → MarkedAs K l (j + length xs) ns
-      → marked_from K (length xs) (l + j) ≡ shiftAll l (each xs (λ x. only (member x.number ns) (x.number ∷ [])))
+      → marked_from K (length xs) (l + j) ≡ shift_all l (each xs (λ x. only (member x.number ns) (x.number ∷ [])))
   unfolding marked_from
   marks-kept j [] c h = refl
   marks-kept j (x ∷ xs) c h =
@@ -61,7 +61,7 @@ module _ (K : List ℕ) (l : ℕ) (ns : List ℕ) where
       let r = ap (marked_from K (length xs)) e ∙ marks-kept (suc j) xs c.1 (subst (λ (n : ℕ). MarkedAs K l n ns) (sym s) h) in
       rw c.0 (by (eqb (get_or K (l + j) 0) 0) (member j ns) (h j (omega arith)) (marked_from K (length xs) (suc (l + j))) _ r)
     where
-      by : (b a : Bool) → b ≡ not a → (ks : List ℕ) (zs : List ℕ) → ks ≡ shiftAll l zs → cond b ks ((l + j) ∷ ks) ≡ shiftAll l (only a (j ∷ []) ++ zs)
+      by : (b a : Bool) → b ≡ not a → (ks : List ℕ) (zs : List ℕ) → ks ≡ shift_all l zs → cond b ks ((l + j) ∷ ks) ≡ shift_all l (only a (j ∷ []) ++ zs)
       by true false p ks zs q = q
       by false true p ks zs q = ap (λ (z : List ℕ). (l + j) ∷ z) q
       by true true p ks zs q = clash (cc p)
@@ -125,19 +125,19 @@ spread-above l (m ∷ ms) [] k i = absurd (no-∈ i)
 spread-above l (m ∷ ms) (ns ∷ nss) k i = ⊎_elim
     (λ j. let (d, u, e) = map-∈ (λ n. l + n) ns j in omega (arith, e))
     (λ j. let h = spread-above (l + size m) ms nss k j in omega (arith, h))
-    (append-∈ (shiftAll l ns) i)
+    (append-∈ (shift_all l ns) i)
 
-shift_in : (l n : ℕ) (ns : List ℕ) → n ∈ ns → l + n ∈ shiftAll l ns
+shift_in : (l n : ℕ) (ns : List ℕ) → n ∈ ns → l + n ∈ shift_all l ns
 shift_in l n ns i = ∈-map (λ k. l + k) i
 
-pub in_shift : (l n : ℕ) (ns : List ℕ) → l + n ∈ shiftAll l ns → n ∈ ns
+pub in_shift : (l n : ℕ) (ns : List ℕ) → l + n ∈ shift_all l ns → n ∈ ns
 in_shift l n ns i = let (d, u, e) = map-∈ (λ k. l + k) ns i in subst (λ (z : ℕ). z ∈ ns) (omega (arith, e)) u
 
 -- a letter of the monitor in the middle
 member-here : (pre ns rest : List ℕ) (l n i : ℕ) → ((k : ℕ) → k ∈ pre → k < l) → ((k : ℕ) → k ∈ rest → l + n ≤ k) → i < n
-    → member (l + i) (pre ++ (shiftAll l ns ++ rest)) ≡ member i ns
+    → member (l + i) (pre ++ (shift_all l ns ++ rest)) ≡ member i ns
 member-here pre ns rest l n i below above h =
-    same_truth (member (l + i) (pre ++ (shiftAll l ns ++ rest))) (member i ns) (λ p. ∈-member i ns (inner (member-∈ (l + i) _ p)))
+    same_truth (member (l + i) (pre ++ (shift_all l ns ++ rest))) (member i ns) (λ p. ∈-member i ns (inner (member-∈ (l + i) _ p)))
     (λ p. ∈-member (l + i) _ (∈-right pre (∈-left rest (shift_in l i ns (member-∈ i ns p)))))
   where
     late : l + i ∈ rest → i ∈ ns
@@ -146,8 +146,8 @@ member-here pre ns rest l n i below above h =
     early : l + i ∈ pre → i ∈ ns
     early k = let b = below (l + i) k in absurd (omega (arith, b))
 
-    inner : l + i ∈ pre ++ (shiftAll l ns ++ rest) → i ∈ ns
-    inner p = ⊎_elim early (λ j. ⊎_elim (λ k. in_shift l i ns k) late (append-∈ (shiftAll l ns) j)) (append-∈ pre p)
+    inner : l + i ∈ pre ++ (shift_all l ns ++ rest) → i ∈ ns
+    inner p = ⊎_elim early (λ j. ⊎_elim (λ k. in_shift l i ns k) late (append-∈ (shift_all l ns) j)) (append-∈ pre p)
 
 -- what is said of a monitor's letters by its size is said by their list
 whole : (K : List ℕ) (l : ℕ) (m : Exp) (ns : List ℕ) → MarkedAs K l (size m) ns → MarkedAs K l (0 + length (letters m)) ns
@@ -163,9 +163,9 @@ module _ (K : List ℕ) (n : ℕ) where
   all-marked pre l (m ∷ ms) (ns ∷ nss) a b c d = (
     λ i h. c (l + i) (omega (arith, d, h))
         ∙ ap not (member-here pre ns (spread (l + size m) ms nss) l (size m) i b (λ k j. spread-above (l + size m) ms nss k j) h),
-    all-marked (pre ++ shiftAll l ns) (l + size m) ms nss a.1
+    all-marked (pre ++ shift_all l ns) (l + size m) ms nss a.1
         (λ k j. ⊎_elim (λ u. let h = b k u in omega (arith, h)) (λ u. let (q, v, e) = map-∈ (λ z. l + z) ns u in let h = a.0 q v in omega (arith, e, h)) (append-∈ pre j))
-        (λ k h. c k h ∙ ap (λ (z : List ℕ). not (member k z)) (sym (append_assoc pre (shiftAll l ns) (spread (l + size m) ms nss))))
+        (λ k h. c k h ∙ ap (λ (z : List ℕ). not (member k z)) (sym (append_assoc pre (shift_all l ns) (spread (l + size m) ms nss))))
         (omega (arith, d)),
   )
 
@@ -174,7 +174,7 @@ unfoldable pub MarksAll : (marks : List ℕ) → (i l : ℕ) → List Exp → Li
 MarksAll K i l [] [] = Unit {0}
 MarksAll K i l [] (x ∷ xs) = ⊥
 MarksAll K i l (m ∷ ms) [] = ⊥
-MarksAll K i l (m ∷ ms) (x ∷ xs) = MarksAre K i (size m) l (shiftPositions l x) × MarksAll K (suc i) (l + size m) ms xs
+MarksAll K i l (m ∷ ms) (x ∷ xs) = MarksAre K i (size m) l (shift_positions l x) × MarksAll K (suc i) (l + size m) ms xs
 
 pub marks_all : (K : List ℕ) (i l : ℕ) (ms : List Exp) (nss : List (List ℕ)) → ((m : Exp) → m ∈ ms → Ordered 0 m) → ((k : ℕ) → i ≤ k → k < i + length ms → get_or K (256 + k) 0 ≡ 0)
     → AllMarkedAs K l ms nss → MarksAll K i l ms (kept_each ms nss)

@@ -10,7 +10,7 @@ use lib.ListN.{length, get_or}
 use Rattle.meaning.specs.Expression.{Exp}
 use Rattle.meaning.specs.Fit.{Tick, Verdict, ok, bad}
 use Rattle.meaning.specs.Positions as machine
-use Rattle.meaning.specs.Calls.{Call, look, take, word_of, State, reply, after_call, repliesFrom, stateFrom}
+use Rattle.meaning.specs.Calls.{Call, look, take, word_of, State, reply, after_call, replies_from, state_from}
 use Rattle.meaning.proofs.ListLaws.{clash}
 use Rattle.rules.specs.declared.Watch.{Watch}
 use Rattle.monitor.specs.Ticks.{Layout, layout, within, Move, step_within, stuck_at}
@@ -29,14 +29,14 @@ module _ (v : Watch) where
   after-by s (look w) = refl
   after-by s (take w) = refl
 
-  pub replies-by : (s : State Moving) (cs : List Call) → replies_of (with_state v s) cs ≡ repliesFrom (judge v) (onward v) v.wires s cs
-  unfolding replies_of repliesFrom reply_of
+  pub replies-by : (s : State Moving) (cs : List Call) → replies_of (with_state v s) cs ≡ replies_from (judge v) (onward v) v.wires s cs
+  unfolding replies_of replies_from reply_of
   replies-by s [] = refl
   replies-by s (c ∷ cs) =
       ap (λ rs. reply (judge v) v.wires s (word_of c) ∷ rs) (ap (λ u. replies_of u cs) (after-by s c) ∙ replies-by (next s c) cs)
 
-  pub watches-by : (s : State Moving) (cs : List Call) → watch_after_all (with_state v s) cs ≡ with_state v (stateFrom (judge v) (onward v) v.wires s cs)
-  unfolding watch_after_all stateFrom
+  pub watches-by : (s : State Moving) (cs : List Call) → watch_after_all (with_state v s) cs ≡ with_state v (state_from (judge v) (onward v) v.wires s cs)
+  unfolding watch_after_all state_from
   watches-by s [] = refl
   watches-by s (c ∷ cs) = ap (λ u. watch_after_all u cs) (after-by s c) ∙ watches-by (next s c) cs
 

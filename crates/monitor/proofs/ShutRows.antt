@@ -22,7 +22,7 @@ use Rattle.meaning.proofs.OneWay.{Closed}
 use Rattle.meaning.proofs.Threads.{among-at}
 use Rattle.meaning.proofs.Walk.{ThreadRow, ThreadsShut, Shuts}
 use Rattle.meaning.proofs.Numbering.{between, renumbered-size, renumbered-rows, renumbered-ordered, numbered}
-use Rattle.meaning.proofs.Shifted.{shiftAll, shiftPositions, closed-renumbered}
+use Rattle.meaning.proofs.Shifted.{shift_all, shift_positions, closed-renumbered}
 use Rattle.meaning.proofs.Rows.{Stands, laid-length}
 use Rattle.rules.specs.Watches.{watch_of}
 use Rattle.rules.proofs.Placing.{letters-long}
@@ -156,7 +156,7 @@ abbrev pub marked : (marks : List ℕ) → ℕ → Bool
 marked K n = not (eqb (get_or K n 0) 0)
 
 -- where those marked, numbered from l on, are the positions ns
-pub same_met : (K : List ℕ) (l : ℕ) (m : Exp) → Ordered 0 m → (ns : List ℕ) → marked_from K (size m) l ≡ shiftAll l ns → (x : Letter) → x ∈ letters m
+pub same_met : (K : List ℕ) (l : ℕ) (m : Exp) → Ordered 0 m → (ns : List ℕ) → marked_from K (size m) l ≡ shift_all l ns → (x : Letter) → x ∈ letters m
     → marked K (l + x.number) ≡ member x.number ns
 same_met K l m o ns e x i =
     let (_, b) = between 0 m o x i in
@@ -259,7 +259,7 @@ module _ (R : Table) (tr : ℕ → ℕ) where
         let ord = renumbered-ordered l m in
         let clo = closed-renumbered l m (c m (here refl)).0 (c m (here refl)).1 in
         let ns = marked_from K (size m) l in (
-          subst (λ (z : List ℕ). Shuts S R (busy z) r m') (marks-active K i (size m) l (shiftPositions l x) h.0)
+          subst (λ (z : List ℕ). Shuts S R (busy z) r m') (marks-active K i (size m) l (shift_positions l x) h.0)
               (shuts R tr S ns r r 0 false l m' (numbered l m' ord) clo ord u₁ s₁ (omega arith)
               (λ v p q w.
               let (n, y, k, d, z) = from v w in

@@ -20,7 +20,7 @@ use Rattle.meaning.proofs.Sets.{Alike}
 use Rattle.meaning.proofs.Occupied.{counted-one, Steady, steady-after}
 use Rattle.meaning.proofs.Watch.{Tracked}
 use Rattle.meaning.proofs.Numbering.{between}
-use Rattle.meaning.proofs.Shifted.{shiftLetter, shiftPositions, shifted, renumbered-shifted, own-shifted, threads-shifted}
+use Rattle.meaning.proofs.Shifted.{shift_letter, shift_positions, shifted, renumbered-shifted, own-shifted, threads-shifted}
 use Rattle.monitor.proofs.Going.{MarksAre}
 use Rattle.monitor.proofs.Moves.{in_shift, MarksAll}
 use Rattle.monitor.proofs.Monitors.{active}
@@ -48,7 +48,7 @@ one_each m (on ns) (on ms) h s f k a b i j p q = one_of (among (own f)) ms (s.1.
 -- ---- a monitor numbered from l on
 
 module _ (l : ℕ) where
-  active-shifted : (x : Positions) (n : ℕ) → l + n ∈ active (shiftPositions l x) → n ∈ active x
+  active-shifted : (x : Positions) (n : ℕ) → l + n ∈ active (shift_positions l x) → n ∈ active x
   active-shifted at_start n i = absurd (no-∈ i)
   active-shifted (on ns) n i = in_shift l n ns i
 
@@ -58,23 +58,23 @@ module _ (K : List ℕ) where
   OneMarked m = (f : Exp) → f ∈ threads m → (a b : ℕ) → T (among (own f) a) → T (among (own f) b) → (get_or K a 0 ≡ 0 → ⊥) → (get_or K b 0 ≡ 0 → ⊥) → a ≡ b
 
   -- a marked letter that is an own letter of a thread is active, but for its number
-  own-active : (i l : ℕ) (m : Exp) (x : Positions) → Ordered 0 m → MarksAre K i (size m) l (shiftPositions l x) → (f : Exp) → f ∈ threads m
+  own-active : (i l : ℕ) (m : Exp) (x : Positions) → Ordered 0 m → MarksAre K i (size m) l (shift_positions l x) → (f : Exp) → f ∈ threads m
       → (a : ℕ) → T (among (own (shifted l f)) a) → (get_or K a 0 ≡ 0 → ⊥) → (n : ℕ) × (l + n ≡ a) × (n ∈ active x) × T (among (own f) n)
   own-active i l m x o h f k a p u =
       let (z, j, e) = among-to (own (shifted l f)) a p in
-      let (y, w, d) = map-∈ (shiftLetter l) (own f) (subst (λ ls. z ∈ ls) (own-shifted l f) j) in
+      let (y, w, d) = map-∈ (shift_letter l) (own f) (subst (λ ls. z ∈ ls) (own-shifted l f) j) in
       let (_, s) = between 0 m o y (threads-letters m f k y (own-letters f y w)) in
       let q : l + y.number ≡ a = ap (λ (t : Letter). t.number) d ∙ e in (
         y.number,
         q,
         active-shifted l x y.number
-            (subst (λ ns. l + y.number ∈ ns) (marks-active K i (size m) l (shiftPositions l x) h)
+            (subst (λ ns. l + y.number ∈ ns) (marks-active K i (size m) l (shift_positions l x) h)
             (in-marked K (size m) l (l + y.number) (omega arith) (omega (arith, s)) (λ z. u (ap (λ (t : ℕ). get_or K t 0) (sym q) ∙ z)))),
         among-from (own f) y w,
       )
 
   -- so at most one of them is marked, in a monitor whose marks are x
-  one_monitor : (i l : ℕ) (m : Exp) (x y : Positions) → Ordered 0 m → MarksAre K i (size m) l (shiftPositions l x) → Alike x y → Steady m y → OneMarked (renumbered l m)
+  one_monitor : (i l : ℕ) (m : Exp) (x y : Positions) → Ordered 0 m → MarksAre K i (size m) l (shift_positions l x) → Alike x y → Steady m y → OneMarked (renumbered l m)
   one_monitor i l m x y o h r s = subst OneMarked (sym (renumbered-shifted l l 0 m (omega arith) o)) (λ f k a b p q u v.
       let (g, j, e) = map-∈ (shifted l) (threads m) (subst (λ fs. f ∈ fs) (threads-shifted l m) k) in
       let (n, c, d, w) = own-active i l m x o h g j a (subst (λ (z : Exp). T (among (own z) a)) (sym e) p) u in

@@ -32,7 +32,7 @@ use Rattle.monitor.proofs.Numbered.{program_of, InOrder}
 use Rattle.monitor.proofs.RowWords.{word_of, kind-is, left_is, up_is}
 use Rattle.monitor.proofs.Shut.{threads-long, two-laid}
 use Rattle.monitor.proofs.ThreadSteps.{seq-left, seq-right, alt-either, star-body, pipe-left, pipe-right, row_below, row-above, no-letter, thread-stored}
-use Rattle.monitor.proofs.Writers.{up-to-below, beyond, threadsIn, beforeThreads, before-long, counts-are}
+use Rattle.monitor.proofs.Writers.{up-to-below, beyond, threads_in, before_threads, before-long, counts-are}
 use Rattle.monitor.proofs.Program.{Counted, table_of, in_order, program-rows, program-letters, words_right, rows-counted}
 
 -- ---- each row's number
@@ -242,22 +242,22 @@ quad-low : (a b c d : ℕ) → part0 (quad a b c d) ≡ part0 a
 quad-low a b c d = omega arith
 
 module _ (v : Watch) (σ w : List ℕ) where
-  thread-word : (i : ℕ) → i < 256 → thread_row_of (given_of v σ w) i ≡ part0 (get_or (threadsIn v) i 0)
-  thread-word zero h = ap part0 (counts-are v σ w) ∙ quad-low (get_or (threadsIn v) 0 0) (writers_of v.links 256) (threaded_of (threadsIn v) 256) (unthreaded_of (threadsIn v) 256)
+  thread-word : (i : ℕ) → i < 256 → thread_row_of (given_of v σ w) i ≡ part0 (get_or (threads_in v) i 0)
+  thread-word zero h = ap part0 (counts-are v σ w) ∙ quad-low (get_or (threads_in v) 0 0) (writers_of v.links 256) (threaded_of (threads_in v) 256) (unthreaded_of (threads_in v) 256)
   thread-word (suc i) h =
       let l = threads-many v.table (min v.rows 1024) in
       ap part0
-      (get_or-set_other (sets (beforeThreads v) 768 (threadsIn v)) 768 (768 + suc i) (quad (get_or (threadsIn v) 0 0) (writers_of v.links 256) (threaded_of (threadsIn v) 256) (unthreaded_of (threadsIn v) 256)) 0
+      (get_or-set_other (sets (before_threads v) 768 (threads_in v)) 768 (768 + suc i) (quad (get_or (threads_in v) 0 0) (writers_of v.links 256) (threaded_of (threads_in v) 256) (unthreaded_of (threads_in v) 256)) 0
       (λ e. omega (arith, e))
-      ∙ stands_at (λ j. get_or (sets (beforeThreads v) 768 (threadsIn v)) j 0) 0 768 (threadsIn v) (suc i) (omega (arith, l, h))
-      (stored-from (beforeThreads v) 768 (threadsIn v) (omega (arith, l, before-long v))))
+      ∙ stands_at (λ j. get_or (sets (before_threads v) 768 (threads_in v)) j 0) 0 768 (threads_in v) (suc i) (omega (arith, l, h))
+      (stored-from (before_threads v) 768 (threads_in v) (omega (arith, l, before-long v))))
 
   -- Behind the last letter that goes on in a thread none does, and so many letters there are at most.
   pub threaded-enough : ((l : ℕ) → threaded (given_of v σ w) ≤ l → l < 256 → thread_row_of (given_of v σ w) l ≡ 0) × (threaded (given_of v σ w) ≤ 256)
   threaded-enough =
-      let few = up-to-below (λ i. eqb (get_or (threadsIn v) i 0) 0) 256 in
-      let e = ap part2 (counts-are v σ w) ∙ quad-2 (get_or (threadsIn v) 0 0) (writers_of v.links 256) (threaded_of (threadsIn v) 256) (unthreaded_of (threadsIn v) 256) (omega (arith, few)) in (
-        λ l h k. thread-word l k ∙ ap part0 (eqb-true (get_or (threadsIn v) l 0) 0 (beyond (λ i. eqb (get_or (threadsIn v) i 0) 0) 256 l (omega (arith, e, h)) k)),
+      let few = up-to-below (λ i. eqb (get_or (threads_in v) i 0) 0) 256 in
+      let e = ap part2 (counts-are v σ w) ∙ quad-2 (get_or (threads_in v) 0 0) (writers_of v.links 256) (threaded_of (threads_in v) 256) (unthreaded_of (threads_in v) 256) (omega (arith, few)) in (
+        λ l h k. thread-word l k ∙ ap part0 (eqb-true (get_or (threads_in v) l 0) 0 (beyond (λ i. eqb (get_or (threads_in v) i 0) 0) 256 l (omega (arith, e, h)) k)),
         omega (arith, e, few),
       )
 
@@ -265,12 +265,12 @@ module _ (v : Watch) (σ w : List ℕ) where
 module _ (v : Watch) (σ w : List ℕ) where
   pub unthreaded-before : (l : ℕ) → l < unthreaded (given_of v σ w) → thread_row_of (given_of v σ w) l ≡ 0
   unthreaded-before l h =
-      let few = first-low (threadsIn v) 256 0 in
-      let e = ap part3 (counts-are v σ w) ∙ quad-3 (get_or (threadsIn v) 0 0) (writers_of v.links 256) (threaded_of (threadsIn v) 256) (unthreaded_of (threadsIn v) 256) (omega (arith, few)) in
-      thread-word v σ w l (omega (arith, h, e, few)) ∙ ap part0 (before-first (threadsIn v) 256 0 l (omega arith) (omega (arith, h, e)))
+      let few = first-low (threads_in v) 256 0 in
+      let e = ap part3 (counts-are v σ w) ∙ quad-3 (get_or (threads_in v) 0 0) (writers_of v.links 256) (threaded_of (threads_in v) 256) (unthreaded_of (threads_in v) 256) (omega (arith, few)) in
+      thread-word v σ w l (omega (arith, h, e, few)) ∙ ap part0 (before-first (threads_in v) 256 0 l (omega arith) (omega (arith, h, e)))
 
 module _ (o : Opened) (c : Counted o) where
-  threads-stored : threadsIn (watch_of (value o)) ≡ sets (replicate 256 0) 0 (thread_rows_all 0 (program_of o))
+  threads-stored : threads_in (watch_of (value o)) ≡ sets (replicate 256 0) 0 (thread_rows_all 0 (program_of o))
   unfolding threads_from
   threads-stored =
       let r = program-rows o c in

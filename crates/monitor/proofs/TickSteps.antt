@@ -12,11 +12,11 @@ use lib.Pow.{pow_pos, pow_mono}
 use lib.Seq.{set-get_or}
 use Rattle.lexer.proofs.Bools.{taken, left}
 use Rattle.meaning.specs.Fit.{Verdict, ok as clean, bad as broken}
-use Rattle.meaning.specs.Calls.{Reply, refused, is_stray, is_full, State, reply, after, reply_of as verdictReply, touched_by}
+use Rattle.meaning.specs.Calls.{Reply, refused, is_stray, is_full, State, reply, after, reply_of as verdict_reply, touched_by}
 use Rattle.words.specs.Words.{part1}
 use Rattle.counts.specs.Counts.{counts_of}
 use Rattle.monitor.specs.Letters.{Given, given, threaded, unthreaded}
-use Rattle.monitor.specs.Walk.{Told, told, askM, leaveM}
+use Rattle.monitor.specs.Walk.{Told, told, ask_m, leave_m}
 use Rattle.monitor.specs.Ticks.{steps, Layout, layout, places_in, own_in, layout_in, first_marked, if_marked, each_marked, shut_row, shut_code, shut_for, shut_busy, and_then, letter_goes, letters_go, start_goes, letters_end, monitor_goes, Reached, reached, reached_by, monitors_go, marks_after, write_marked, count_met, writers, Move, move, move_by, step_within, step_of, within, stuck_at}
 use Rattle.monitor.specs.Limited.{tick_mask, answer_by, fine, is_bad, verdict_by, windows_after, walk_of, mask_at, answer_at, Stepped, stepped, tick_of}
 use Rattle.windows.specs.Windows.{counted_in, first_beyond}
@@ -105,18 +105,18 @@ shut-row r c M h e = ap (set M r) e ∙ by (eqb r 0) ∙ ap (cond (eqb r 0) M) (
 pub letter-stays : (g : Given) (P K : List ℕ) (l : ℕ) (M : List ℕ) → get_or K l 0 ≡ 0 → told true M ≡ letter_goes g P K l M
 letter-stays g P K l M z = sym (taken (eqb (get_or K l 0) 0) (told true M) _ (eq-eqb (get_or K l 0) 0 z))
 
-pub letter-left : (g : Given) (P K : List ℕ) (l r : ℕ) (M : List ℕ) (t : Told) → (get_or K l 0 ≡ 0 → ⊥) → r ≡ get_or P l 0 → t ≡ leaveM steps g r M
+pub letter-left : (g : Given) (P K : List ℕ) (l r : ℕ) (M : List ℕ) (t : Told) → (get_or K l 0 ≡ 0 → ⊥) → r ≡ get_or P l 0 → t ≡ leave_m steps g r M
     → t ≡ letter_goes g P K l M
 letter-left g P K l r M t z d e =
-    e ∙ ap (λ (n : ℕ). leaveM steps g n M) d ∙ sym (left (eqb (get_or K l 0) 0) (told true M) _ (ne_eqb (get_or K l 0) 0 z))
+    e ∙ ap (λ (n : ℕ). leave_m steps g n M) d ∙ sym (left (eqb (get_or K l 0) 0) (told true M) _ (ne_eqb (get_or K l 0) 0 z))
 
 pub start-stays : (g : Given) (O K : List ℕ) (i : ℕ) (M : List ℕ) → get_or K (256 + i) 0 ≡ 0 → told true M ≡ start_goes g O K i M
 start-stays g O K i M z = sym (taken (eqb (get_or K (256 + i) 0) 0) (told true M) _ (eq-eqb (get_or K (256 + i) 0) 0 z))
 
-pub start-asked : (g : Given) (O K : List ℕ) (i r : ℕ) (M : List ℕ) (t : Told) → (get_or K (256 + i) 0 ≡ 0 → ⊥) → r ≡ get_or O i 0 → t ≡ askM steps g r M
+pub start-asked : (g : Given) (O K : List ℕ) (i r : ℕ) (M : List ℕ) (t : Told) → (get_or K (256 + i) 0 ≡ 0 → ⊥) → r ≡ get_or O i 0 → t ≡ ask_m steps g r M
     → t ≡ start_goes g O K i M
 start-asked g O K i r M t z d e =
-    e ∙ ap (λ (n : ℕ). askM steps g n M) d ∙ sym (left (eqb (get_or K (256 + i) 0) 0) (told true M) _ (ne_eqb (get_or K (256 + i) 0) 0 z))
+    e ∙ ap (λ (n : ℕ). ask_m steps g n M) d ∙ sym (left (eqb (get_or K (256 + i) 0) 0) (told true M) _ (ne_eqb (get_or K (256 + i) 0) 0 z))
 
 -- one told, and then the rest
 told-yes : (t : Told) (b : Bool) (M : List ℕ) (f : List ℕ → Told) → told b M ≡ t → b ≡ true → and_then t f ≡ f M
@@ -379,7 +379,7 @@ module _ (by-judge : Moving → ℕ → Verdict) (wires : ℕ) (s : State Moving
   number-refused z = by s.stopped (is_full s.oks) (is_stray wires w) e
     where
       by : (a b d : Bool) → n ≡ cond a 16 (cond b 17 (cond d 15 0))
-          → cond a (refused 16 0) (cond b (refused 17 0) (cond d (refused 15 0) (verdictReply (by-judge s.inner w)))) ≡ refused n 0
+          → cond a (refused 16 0) (cond b (refused 17 0) (cond d (refused 15 0) (verdict_reply (by-judge s.inner w)))) ≡ refused n 0
       by true b d h = ap (λ (k : ℕ). refused k 0) (sym h)
       by false true d h = ap (λ (k : ℕ). refused k 0) (sym h)
       by false false true h = ap (λ (k : ℕ). refused k 0) (sym h)
@@ -393,20 +393,20 @@ module _ (by-judge : Moving → ℕ → Verdict) (wires : ℕ) (s : State Moving
       by false true f d h = omega (arith, h, z)
       by false false f d h = leb-false 1000000 s.oks f
 
-  pub number-judged : n ≡ 0 → reply by-judge wires s w ≡ verdictReply (by-judge s.inner w)
+  pub number-judged : n ≡ 0 → reply by-judge wires s w ≡ verdict_reply (by-judge s.inner w)
   unfolding reply
   number-judged z = by s.stopped (is_full s.oks) (is_stray wires w) e
     where
       by : (a b d : Bool) → n ≡ cond a 16 (cond b 17 (cond d 15 0))
-          → cond a (refused 16 0) (cond b (refused 17 0) (cond d (refused 15 0) (verdictReply (by-judge s.inner w)))) ≡ verdictReply (by-judge s.inner w)
+          → cond a (refused 16 0) (cond b (refused 17 0) (cond d (refused 15 0) (verdict_reply (by-judge s.inner w)))) ≡ verdict_reply (by-judge s.inner w)
       by true b d h = absurd (let q : 16 ≡ 0 = sym h ∙ z in omega (arith, q))
       by false true d h = absurd (let q : 17 ≡ 0 = sym h ∙ z in omega (arith, q))
       by false false true h = absurd (let q : 15 ≡ 0 = sym h ∙ z in omega (arith, q))
       by false false false h = refl
 
   -- by what the word is answered with
-  pub number-reached : n ≡ 0 → (a : ℕ) → by-judge s.inner w ≡ verdict_by a → (b : Bool) → b ≡ is_bad a → reply by-judge wires s w ≡ verdictReply (cond b (broken a) clean)
-  number-reached z a j b f = number-judged z ∙ ap verdictReply j ∙ ap (λ (c : Bool). verdictReply (cond c (broken a) clean)) (sym f)
+  pub number-reached : n ≡ 0 → (a : ℕ) → by-judge s.inner w ≡ verdict_by a → (b : Bool) → b ≡ is_bad a → reply by-judge wires s w ≡ verdict_reply (cond b (broken a) clean)
+  number-reached z a j b f = number-judged z ∙ ap verdict_reply j ∙ ap (λ (c : Bool). verdict_reply (cond c (broken a) clean)) (sym f)
 
 module _ (v : Watch) (w n : ℕ) (e : n ≡ refused_by v.stopped v.ticks v.wires w) where
   reply-refused : (n ≡ 0 → ⊥) → reply_of v w ≡ refused n 0
@@ -427,15 +427,15 @@ module _ (v : Watch) (w n : ℕ) (e : n ≡ refused_by v.stopped v.ticks v.wires
   few-ticks = number-room (judge v) v.wires (state_of v) w n e
 
   module _ (z : n ≡ 0) (a : ℕ) (s : a ≡ answer_from v (state_of v).inner w) (b : Bool) (f : b ≡ is_bad a) where
-    reply-reached : reply_of v w ≡ verdictReply (cond b (broken a) clean)
+    reply-reached : reply_of v w ≡ verdict_reply (cond b (broken a) clean)
     unfolding reply_of
     reply-reached = number-reached (judge v) v.wires (state_of v) w n e z a (ap verdict_by (sym s)) b f
 
     pub look-bad : b ≡ true → shown_answer (Bad a) ≡ reply_of v w
-    look-bad h = sym (reply-reached ∙ ap verdictReply (taken b (broken a) clean h))
+    look-bad h = sym (reply-reached ∙ ap verdict_reply (taken b (broken a) clean h))
 
     pub look-ok : b ≡ false → shown_answer Ok ≡ reply_of v w
-    look-ok h = sym (reply-reached ∙ ap verdictReply (left b (broken a) clean h))
+    look-ok h = sym (reply-reached ∙ ap verdict_reply (left b (broken a) clean h))
 
   -- a take answers as a look does, and moves the watch on
   module _ (z : n ≡ 0) (a : ℕ) (K σ W : List ℕ) (s : stepped a K σ W ≡ tick_from v (state_of v).inner w) (b : Bool) (f : b ≡ is_bad a) (u : Watch) where

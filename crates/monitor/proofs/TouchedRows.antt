@@ -19,7 +19,7 @@ use Rattle.meaning.specs.Opening.{Opened, open_text}
 use Rattle.meaning.proofs.ListLaws.{here, there, no-∈, cons-∈}
 use Rattle.meaning.proofs.Monitor.{Accepted}
 use Rattle.meaning.proofs.Watch.{Tracked}
-use Rattle.meaning.proofs.Shifted.{shiftPositions, shiftAll, renumbered-shifted}
+use Rattle.meaning.proofs.Shifted.{shift_positions, shift_all, renumbered-shifted}
 use Rattle.meaning.proofs.Counting.{asked_count, own_place, sums_after}
 use Rattle.meaning.proofs.CountingLaws.{sums_same, sums_none, asked-shifted, after-shifted}
 use Rattle.meaning.proofs.TouchedCount.{count_at, counts_at, touched-tracked, touched-most, alone-most-from}
@@ -44,14 +44,14 @@ use Rattle.monitor.proofs.Calls.{calls-answered, marks-right, watch-held}
 
 module _ (K : List ℕ) where
   -- the letters of a monitor that are marked, numbered from l on, are its positions ns
-  module _ (l : ℕ) (m : Exp) (o : Ordered 0 m) (ns : List ℕ) (e : marked_from K (size m) l ≡ shiftAll l ns) where
+  module _ (l : ℕ) (m : Exp) (o : Ordered 0 m) (ns : List ℕ) (e : marked_from K (size m) l ≡ shift_all l ns) where
     sums-marked : sums_after (marked K) (renumbered l m) ≡ sums_after (λ n. member n ns) m
     sums-marked =
         ap (sums_after (marked K)) (renumbered-shifted l l 0 m (omega arith) o) ∙ after-shifted l (marked K) m
         ∙ sums_same (λ n. marked K (l + n)) (λ n. member n ns) m (own_place m) false (same_met K l m o ns e)
 
   -- what is counted for it is what its positions touch
-  one-counted : (i l : ℕ) (m : Exp) (x : Positions) → Ordered 0 m → MarksAre K i (size m) l (shiftPositions l x)
+  one-counted : (i l : ℕ) (m : Exp) (x : Positions) → Ordered 0 m → MarksAre K i (size m) l (shift_positions l x)
       → cond (eqb (get_or K (256 + i) 0) 0) 0 (asked_count (renumbered l m)) + sums_after (marked K) (renumbered l m) ≡ count_at m x
   one-counted i l m at_start o (a, b) =
       rw a

@@ -24,7 +24,7 @@ use Rattle.meaning.proofs.Sets.{Alike}
 use Rattle.meaning.proofs.Occupied.{Single, Steady, steady-after}
 use Rattle.meaning.proofs.Watch.{Tracked}
 use Rattle.meaning.proofs.Numbering.{renumbered-size, renumbered-rows, renumbered-ordered}
-use Rattle.meaning.proofs.Shifted.{shiftPositions, shiftAll, renumbered-shifted, renumbered-solid}
+use Rattle.meaning.proofs.Shifted.{shift_positions, shift_all, renumbered-shifted, renumbered-solid}
 use Rattle.meaning.proofs.Counting.{asked_count, own_place, sums_after}
 use Rattle.meaning.proofs.CountingLaws.{sums_none, asked-shifted}
 use Rattle.meaning.proofs.TouchedCount.{count_at, counts_at, touched-tracked}
@@ -56,7 +56,7 @@ use Rattle.monitor.proofs.Calls.{marks-right, watch-held}
 
 module _ (K : List ℕ) (i l : ℕ) (m : Exp) (o : Ordered 0 m) (ac : Accepted m) where
   -- its marked letters are the positions ns, the same set as ks, which has one letter a thread at most
-  spent-few : (ns ks : List ℕ) → marked_from K (size m) l ≡ shiftAll l ns → ((n : ℕ) → member n ks ≡ member n ns) → Single m ks
+  spent-few : (ns ks : List ℕ) → marked_from K (size m) l ≡ shift_all l ns → ((n : ℕ) → member n ks ≡ member n ns) → Single m ks
       → spent_after (marked K) (renumbered l m) ≤ 3 * sums_after (λ n. member n ns) m
   spent-few ns ks e same s =
       let p = ap (spent_after (marked K)) (renumbered-shifted l l 0 m (omega arith) o) ∙ spent-after-shifted l (marked K) m
@@ -65,7 +65,7 @@ module _ (K : List ℕ) (i l : ℕ) (m : Exp) (o : Ordered 0 m) (ac : Accepted m
       omega (arith, p, q)
 
   -- at its start it is asked, otherwise it spends
-  monitor-spent : (x y : Positions) → Alike x y → Steady m y → MarksAre K i (size m) l (shiftPositions l x)
+  monitor-spent : (x y : Positions) → Alike x y → Steady m y → MarksAre K i (size m) l (shift_positions l x)
       → cond (eqb (get_or K (256 + i) 0) 0) 0 (1 + asked_count (renumbered l m)) + spent_after (marked K) (renumbered l m) ≤ 3 * count_at m x
   monitor-spent at_start y h s (a, b) =
       rw a

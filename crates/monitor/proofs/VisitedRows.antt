@@ -18,9 +18,9 @@ use Rattle.meaning.proofs.Counting.{one, asked_count, Place, left_of_seq, right_
 use Rattle.meaning.proofs.Spent.{spent, spent_after}
 use Rattle.words.specs.Words.{part0, part1, part2, part3}
 use Rattle.monitor.specs.Letters.{Given, letter_met}
-use Rattle.monitor.specs.Walk.{Came, came, Told, told, Entry, or_enter_code, enter_on, kept_entry, enter_m, leave_to, leave_on, askM, leaveM}
+use Rattle.monitor.specs.Walk.{Came, came, Told, told, Entry, or_enter_code, enter_on, kept_entry, enter_m, leave_to, leave_on, ask_m, leave_m}
 use Rattle.monitor.specs.Ticks.{steps, Layout, and_then, letters_go, letters_end, monitor_goes}
-use Rattle.monitor.specs.Visits.{Visits, enter_on_visits, enter_visits, leave_to_visits, askVisits, leaveVisits, and_visits, letters_visits, monitor_visits}
+use Rattle.monitor.specs.Visits.{Visits, enter_on_visits, enter_visits, leave_to_visits, ask_visits, leave_visits, and_visits, letters_visits, monitor_visits}
 use Rattle.monitor.proofs.Memory.{after-set, Begun}
 
 -- ---- numbers
@@ -214,10 +214,10 @@ module _ (g : Given) (nul : ℕ → Bool) where
     -- ---- asking and leaving, in w calls at most, whatever the count
 
     abbrev Asks : (r w : ℕ) → Type 0
-    Asks r w = (k : ℕ) (M : List ℕ) → Sane M → (askVisits k g r M ≤ w) × Sane (askM k g r M).memory
+    Asks r w = (k : ℕ) (M : List ℕ) → Sane M → (ask_visits k g r M ≤ w) × Sane (ask_m k g r M).memory
 
     abbrev Leaves : (r w : ℕ) → Type 0
-    Leaves r w = (k : ℕ) (M : List ℕ) → Sane M → (leaveVisits k g r M ≤ w) × Sane (leaveM k g r M).memory
+    Leaves r w = (k : ℕ) (M : List ℕ) → Sane M → (leave_visits k g r M ≤ w) × Sane (leave_m k g r M).memory
 
     -- or in more
     more : (r v w : ℕ) → v ≤ w → Leaves r v → Leaves r w
@@ -225,19 +225,19 @@ module _ (g : Given) (nul : ℕ → Bool) where
 
     -- e is asked, where leaving it takes w calls
     asks : (r up : ℕ) (e : Exp) → Built r up e → Solid e → (w : ℕ) → (T (nullable e) → Leaves r w) → Asks r (cond (nullable e) (asked_count e + w) (1 + asked_count e))
-    unfolding askVisits askM
+    unfolding ask_visits ask_m
     asks r up e b s w p zero M m = (ask-few (nullable e) false 0 0 (asked_count e) w (λ t. absurd t) (let h = asked-some e in omega (arith, h)), m)
     asks r up e b s w p (suc k) M m = let a = enter_m k g r M in by (eqb a.code 3) (eqb a.code 2) refl
       where
         y : Enters e (enter_visits k g r M) (enter_m k g r M)
         y = enters k r up e b s M m
 
-        left : eqb (enter_m k g r M).code 2 ≡ true → T (nullable e) × (leaveVisits k g r (enter_m k g r M).memory ≤ w) × Sane (leaveM k g r (enter_m k g r M).memory).memory
+        left : eqb (enter_m k g r M).code 2 ≡ true → T (nullable e) × (leave_visits k g r (enter_m k g r M).memory ≤ w) × Sane (leave_m k g r (enter_m k g r M).memory).memory
         left h = let t = y.null (eqb-true (enter_m k g r M).code 2 h) in let (l, z) = p t k (enter_m k g r M).memory y.sane in (t, l, z)
 
         by : (c d : Bool) → eqb (enter_m k g r M).code 2 ≡ d
-            → (1 + enter_visits k g r M + cond d (leaveVisits k g r (enter_m k g r M).memory) 0 ≤ cond (nullable e) (asked_count e + w) (1 + asked_count e))
-            × Sane (cond c (told true (enter_m k g r M).memory) (cond d (leaveM k g r (enter_m k g r M).memory) (told false (enter_m k g r M).memory))).memory
+            → (1 + enter_visits k g r M + cond d (leave_visits k g r (enter_m k g r M).memory) 0 ≤ cond (nullable e) (asked_count e + w) (1 + asked_count e))
+            × Sane (cond c (told true (enter_m k g r M).memory) (cond d (leave_m k g r (enter_m k g r M).memory) (told false (enter_m k g r M).memory))).memory
         by true true h = let (t, l, z) = left h in (ask-few (nullable e) true _ _ _ w (λ _. (t, l)) y.few, y.sane)
         by false true h = let (t, l, z) = left h in (ask-few (nullable e) true _ _ _ w (λ _. (t, l)) y.few, z)
         by true false h = (ask-few (nullable e) false _ 0 _ w (λ t. absurd t) y.few, y.sane)
@@ -246,12 +246,12 @@ module _ (g : Given) (nul : ℕ → Bool) where
     -- an operand, in row r, of row u is left: by the word of row u
     abbrev Toward : (u r w : ℕ) → Type 0
     Toward u r w = (k : ℕ) (M : List ℕ) → Sane M
-        → (leave_to_visits (enter_visits k g) (askVisits k g) (leaveVisits k g) (enter_m k g) (word u) u r M ≤ w)
-        × Sane (leave_to (enter_m k g) (askM k g) (leaveM k g) (word u) u r M).memory
+        → (leave_to_visits (enter_visits k g) (ask_visits k g) (leave_visits k g) (enter_m k g) (word u) u r M ≤ w)
+        × Sane (leave_to (enter_m k g) (ask_m k g) (leave_m k g) (word u) u r M).memory
 
     -- so it is left
     leaves_by : (u r w : ℕ) (e : Exp) → u < r → Built r u e → Toward u r w → Leaves r (1 + w)
-    unfolding leaveVisits leaveM leave_on
+    unfolding leave_visits leave_m leave_on
     leaves_by u r w e h b p zero M m = (omega arith, m)
     leaves_by u r w e h b p (suc k) M m =
         let (l, q) = own_row r u e b in
@@ -286,8 +286,8 @@ module _ (g : Given) (nul : ℕ → Bool) where
           y : Enters f (enter_visits k g i M) (enter_m k g i M)
           y = enters k i u f d s M m
 
-          by : (o : Bool) → (enter_visits k g i M + cond o 0 (leaveVisits k g u (enter_m k g i M).memory) ≤ asked_count f + w)
-              × Sane (cond o (told false (enter_m k g i M).memory) (leaveM k g u (enter_m k g i M).memory)).memory
+          by : (o : Bool) → (enter_visits k g i M + cond o 0 (leave_visits k g u (enter_m k g i M).memory) ≤ asked_count f + w)
+              × Sane (cond o (told false (enter_m k g i M).memory) (leave_m k g u (enter_m k g i M).memory)).memory
           by true = (let v = y.few in omega (arith, v), y.sane)
           by false = let (x, z) = p k (enter_m k g i M).memory y.sane in (let v = y.few in omega (arith, v, x), z)
 
@@ -329,10 +329,10 @@ module _ (g : Given) (nul : ℕ → Bool) where
       unfolding letters_visits letters_go
       one-letter n l v w p q M m = by (eqb (get_or marks l 0) 0)
         where
-          by : (b : Bool) → let a = cond b (told true M) (leaveM steps g (get_or L l 0) M) in
-              (cond b 0 (leaveVisits steps g (get_or L l 0) M) + and_visits a (letters_visits g L marks n (suc l)) ≤ cond (not b) v 0 + w) × Sane (and_then a (letters_go g L marks n (suc l))).memory
+          by : (b : Bool) → let a = cond b (told true M) (leave_m steps g (get_or L l 0) M) in
+              (cond b 0 (leave_visits steps g (get_or L l 0) M) + and_visits a (letters_visits g L marks n (suc l)) ≤ cond (not b) v 0 + w) × Sane (and_then a (letters_go g L marks n (suc l))).memory
           by true = let (i, j) = q M m in (omega (arith, i), j)
-          by false = let (x, y) = p steps M m in let (i, j) = behind n (suc l) w q (leaveM steps g (get_or L l 0) M) y in (omega (arith, x, i), j)
+          by false = let (x, y) = p steps M m in let (i, j) = behind n (suc l) w q (leave_m steps g (get_or L l 0) M) y in (omega (arith, x, i), j)
 
       -- those of e, whose place is c and whose row is left in no more calls than twice that and p; and n behind them
       letters-few : (k r up : ℕ) (e : Exp) (c : Place) (p n w : ℕ) → Ordered k e → Built r up e → Solid e → Leaves r (2 * c.whole + p) → Letters n (k + size e) w
@@ -379,7 +379,7 @@ module _ (g : Given) (nul : ℕ → Bool) where
 
       -- where it is left, it is asked again
       own-leaves : Leaves r (2 * (1 + asked_count m) + 0)
-      unfolding leaveVisits leaveM leave_on
+      unfolding leave_visits leave_m leave_on
       own-leaves zero M p = (omega arith, p)
       own-leaves (suc k) M p = let (l, q) = own_row r r m b in rw (lt-leb 1024 r l, q, eq-eqb r r refl) (let (x, y) = own-asks k M p in (omega (arith, x), y))
 
@@ -396,8 +396,8 @@ module _ (g : Given) (nul : ℕ → Bool) where
             letters : Letters marks (size m) l (spent_after (act marks) m)
             letters = letters-as marks (omega arith) refl (omega arith) (letters-few marks l r r m (own_place m) 0 0 0 o b s.1 own-leaves (no-letters marks (l + size m)))
 
-            by : (b : Bool) → let a = cond b (told true M) (askM steps g r M) in
-                (cond b 0 (askVisits steps g r M) + and_visits a (letters_visits g L marks (size m) l) ≤ cond b 0 (1 + asked_count m) + spent_after (act marks) m)
+            by : (b : Bool) → let a = cond b (told true M) (ask_m steps g r M) in
+                (cond b 0 (ask_visits steps g r M) + and_visits a (letters_visits g L marks (size m) l) ≤ cond b 0 (1 + asked_count m) + spent_after (act marks) m)
                 × Sane (and_then a (letters_go g L marks (size m) l)).memory
             by true = let (v, w) = letters M p in (omega (arith, v), w)
-            by false = let (v, w) = own-asks steps M p in let (x, z) = behind marks (size m) l _ letters (askM steps g r M) w in (omega (arith, v, x), z)
+            by false = let (v, w) = own-asks steps M p in let (x, z) = behind marks (size m) l _ letters (ask_m steps g r M) w in (omega (arith, v, x), z)

@@ -8,7 +8,7 @@ use borrow.Author.Tests.{eq-eqb, ne_eqb, le-leb, lt-leb, not-true, not-false}
 use lib.ListN.{get_or, set}
 use Rattle.words.specs.Words.{part0, part1, part2, part3}
 use Rattle.monitor.specs.Letters.{Given, letter_met}
-use Rattle.monitor.specs.Walk.{Came, came, Told, told, Entry, enter_letter, enter_second, enter_on, enter_m, leave_to, leave_on, askM, leaveM}
+use Rattle.monitor.specs.Walk.{Came, came, Told, told, Entry, enter_letter, enter_second, enter_on, enter_m, leave_to, leave_on, ask_m, leave_m}
 
 -- ---- a letter is entered
 
@@ -33,12 +33,12 @@ module _ (n : ℕ) (g : Given) (r : ℕ) (M : List ℕ) where
   unfolding enter_m
   enter-spent e = rw e
 
-  pub ask-spent : n ≡ 0 → told false M ≡ askM n g r M
-  unfolding askM
+  pub ask-spent : n ≡ 0 → told false M ≡ ask_m n g r M
+  unfolding ask_m
   ask-spent e = rw e
 
-  pub leave-spent : n ≡ 0 → told false M ≡ leaveM n g r M
-  unfolding leaveM
+  pub leave-spent : n ≡ 0 → told false M ≡ leave_m n g r M
+  unfolding leave_m
   leave-spent e = rw e
 
   module _ (z : n ≡ 0 → ⊥) where
@@ -46,8 +46,8 @@ module _ (n : ℕ) (g : Given) (r : ℕ) (M : List ℕ) where
     unfolding enter_m
     enter-far h = rw (one_less n z, le-leb 1024 r h)
 
-    pub leave-far : 1024 ≤ r → told false M ≡ leaveM n g r M
-    unfolding leaveM
+    pub leave-far : 1024 ≤ r → told false M ≡ leave_m n g r M
+    unfolding leave_m
     leave-far h = rw (one_less n z, le-leb 1024 r h)
 
     module _ (h : r < 1024) where
@@ -61,67 +61,67 @@ module _ (n : ℕ) (g : Given) (r : ℕ) (M : List ℕ) where
 
       -- u is the row above
       module _ (u : ℕ) (d : u ≡ part3 (get_or g.table r 0)) where
-        pub leave_own : u ≡ r → (a : Told) → a ≡ askM (n - 1) g r M → a ≡ leaveM n g r M
-        unfolding leaveM leave_on
+        pub leave_own : u ≡ r → (a : Told) → a ≡ ask_m (n - 1) g r M → a ≡ leave_m n g r M
+        unfolding leave_m leave_on
         leave_own e a p = rw (one_less n z, lt-leb 1024 r h, ← d, eq-eqb u r e) p
 
         module _ (y : u ≡ r → ⊥) where
-          pub leave-lost : 1024 ≤ u → told false M ≡ leaveM n g r M
-          unfolding leaveM leave_on
+          pub leave-lost : 1024 ≤ u → told false M ≡ leave_m n g r M
+          unfolding leave_m leave_on
           leave-lost f = rw (one_less n z, lt-leb 1024 r h, ← d, ne_eqb u r y, le-leb 1024 u f)
 
           -- k is its kind
           module _ (f : u < 1024) (k : ℕ) (q : k ≡ part0 (get_or g.table u 0)) where
-            by-above : (a : Told) → a ≡ leave_to (enter_m (n - 1) g) (askM (n - 1) g) (leaveM (n - 1) g) (get_or g.table u 0) u r M → a ≡ leaveM n g r M
-            unfolding leaveM leave_on
+            by-above : (a : Told) → a ≡ leave_to (enter_m (n - 1) g) (ask_m (n - 1) g) (leave_m (n - 1) g) (get_or g.table u 0) u r M → a ≡ leave_m n g r M
+            unfolding leave_m leave_on
             by-above a p = rw (one_less n z, lt-leb 1024 r h, ← d, ne_eqb u r y, lt-leb 1024 u f) p
 
-            pub to-alternative : k ≡ 2 → (a : Told) → a ≡ leaveM (n - 1) g u M → a ≡ leaveM n g r M
+            pub to-alternative : k ≡ 2 → (a : Told) → a ≡ leave_m (n - 1) g u M → a ≡ leave_m n g r M
             unfolding leave_to
             to-alternative e a p = by-above a (rw (← q, e) p)
 
-            pub to-star : k ≡ 3 → (a : Told) → a ≡ askM (n - 1) g u M → a ≡ leaveM n g r M
+            pub to-star : k ≡ 3 → (a : Told) → a ≡ ask_m (n - 1) g u M → a ≡ leave_m n g r M
             unfolding leave_to
             to-star e a p = by-above a (rw (← q, e) p)
 
-            pub to_none : (k ≡ 1 → ⊥) → (k ≡ 2 → ⊥) → (k ≡ 3 → ⊥) → (k ≡ 4 → ⊥) → told false M ≡ leaveM n g r M
+            pub to_none : (k ≡ 1 → ⊥) → (k ≡ 2 → ⊥) → (k ≡ 3 → ⊥) → (k ≡ 4 → ⊥) → told false M ≡ leave_m n g r M
             unfolding leave_to
             to_none m o s t = by-above (told false M) (rw (← q, ne_eqb k 1 m, ne_eqb k 2 o, ne_eqb k 3 s, ne_eqb k 4 t))
 
             module _ (b : ℕ) (c : b ≡ part1 (get_or g.table u 0)) where
-              pub to_end : k ≡ 1 → (b ≡ r → ⊥) → (a : Told) → a ≡ leaveM (n - 1) g u M → a ≡ leaveM n g r M
+              pub to_end : k ≡ 1 → (b ≡ r → ⊥) → (a : Told) → a ≡ leave_m (n - 1) g u M → a ≡ leave_m n g r M
               unfolding leave_to
               to_end e t a p = by-above a (rw (← q, e, ← c, ne_eqb b r t) p)
 
-              pub to-ended : k ≡ 4 → (b ≡ r → ⊥) → told true M ≡ leaveM n g r M
+              pub to-ended : k ≡ 4 → (b ≡ r → ⊥) → told true M ≡ leave_m n g r M
               unfolding leave_to
               to-ended e t = by-above (told true M) (rw (← q, e, ← c, ne_eqb b r t))
 
               module _ (t : b ≡ r) (i : ℕ) (j : i ≡ part2 (get_or g.table u 0)) where
-                pub to-right : k ≡ 1 → (a : Told) → a ≡ askM (n - 1) g i M → a ≡ leaveM n g r M
+                pub to-right : k ≡ 1 → (a : Told) → a ≡ ask_m (n - 1) g i M → a ≡ leave_m n g r M
                 unfolding leave_to
                 to-right e a p = by-above a (rw (← q, e, ← c, eq-eqb b r t, ← j) p)
 
                 module _ (e : k ≡ 4) (v : ℕ) (N : List ℕ) (o : came v N ≡ enter_m (n - 1) g i M) where
-                  pub thread-blocked : v ≡ 1 → told false N ≡ leaveM n g r M
+                  pub thread-blocked : v ≡ 1 → told false N ≡ leave_m n g r M
                   unfolding leave_to
                   thread-blocked s = by-above (told false N) (rw (← q, e, ← c, eq-eqb b r t, ← j, ← o, s))
 
-                  pub thread-starts : (v ≡ 1 → ⊥) → (a : Told) → a ≡ leaveM (n - 1) g u N → a ≡ leaveM n g r M
+                  pub thread-starts : (v ≡ 1 → ⊥) → (a : Told) → a ≡ leave_m (n - 1) g u N → a ≡ leave_m n g r M
                   unfolding leave_to
                   thread-starts s a p = by-above a (rw (← q, e, ← c, eq-eqb b r t, ← j, ← o, ne_eqb v 1 s) p)
 
     module _ (k : ℕ) (N : List ℕ) (e : came k N ≡ enter_m (n - 1) g r M) where
-      pub ask-met : k ≡ 3 → told true N ≡ askM n g r M
-      unfolding askM
+      pub ask-met : k ≡ 3 → told true N ≡ ask_m n g r M
+      unfolding ask_m
       ask-met h = rw (one_less n z, ← e, h)
 
-      pub ask-blocked : (k ≡ 3 → ⊥) → (k ≡ 2 → ⊥) → told false N ≡ askM n g r M
-      unfolding askM
+      pub ask-blocked : (k ≡ 3 → ⊥) → (k ≡ 2 → ⊥) → told false N ≡ ask_m n g r M
+      unfolding ask_m
       ask-blocked t p = rw (one_less n z, ← e, ne_eqb k 3 t, ne_eqb k 2 p)
 
-      pub ask-passed : k ≡ 2 → (a : Told) → a ≡ leaveM (n - 1) g r N → a ≡ askM n g r M
-      unfolding askM
+      pub ask-passed : k ≡ 2 → (a : Told) → a ≡ leave_m (n - 1) g r N → a ≡ ask_m n g r M
+      unfolding ask_m
       ask-passed h a p = rw (one_less n z, ← e, h) p
 
 -- ---- a row's word, when the row is entered

@@ -124,24 +124,24 @@ module _ (g : Given) (K : List ℕ) where
 
 module _ (v : Watch) where
   -- the threads of its letters, and what stands before them
-  abbrev pub threadsIn : List ℕ
-  threadsIn = threads_of v.table v.rows
+  abbrev pub threads_in : List ℕ
+  threads_in = threads_of v.table v.rows
 
-  abbrev pub beforeThreads : List ℕ
-  beforeThreads = sets (sets (sets (replicate 1024 0) 0 v.look) 256 v.want) 512 v.held
+  abbrev pub before_threads : List ℕ
+  before_threads = sets (sets (sets (replicate 1024 0) 0 v.look) 256 v.want) 512 v.held
 
-  pub before-long : length beforeThreads ≡ 1024
+  pub before-long : length before_threads ≡ 1024
   before-long =
       length-sets (sets (sets (replicate 1024 0) 0 v.look) 256 v.want) 512 v.held ∙ length-sets (sets (replicate 1024 0) 0 v.look) 256 v.want
       ∙ length-sets (replicate 1024 0) 0 v.look ∙ length-replicate {A = ℕ} 1024 0
 
 module _ (v : Watch) (σ w : List ℕ) where
   -- the word with the counts
-  pub counts-are : get_or (given_of v σ w).letters 768 0 ≡ quad (get_or (threadsIn v) 0 0) (writers_of v.links 256) (threaded_of (threadsIn v) 256) (unthreaded_of (threadsIn v) 256)
-  counts-are = get_or-set_same (sets (beforeThreads v) 768 (threadsIn v)) 768 _ 0 (omega (arith, length-sets (beforeThreads v) 768 (threadsIn v), before-long v))
+  pub counts-are : get_or (given_of v σ w).letters 768 0 ≡ quad (get_or (threads_in v) 0 0) (writers_of v.links 256) (threaded_of (threads_in v) 256) (unthreaded_of (threads_in v) 256)
+  counts-are = get_or-set_same (sets (before_threads v) 768 (threads_in v)) 768 _ 0 (omega (arith, length-sets (before_threads v) 768 (threads_in v), before-long v))
 
   writers-are : part1 (get_or (given_of v σ w).letters 768 0) ≡ writers_of v.links 256
-  writers-are = ap part1 counts-are ∙ quad-1 (get_or (threadsIn v) 0 0) (writers_of v.links 256) (threaded_of (threadsIn v) 256) (unthreaded_of (threadsIn v) 256) (let h = up-to-below (unwriting v.links) 256 in omega (arith, h))
+  writers-are = ap part1 counts-are ∙ quad-1 (get_or (threads_in v) 0 0) (writers_of v.links 256) (threaded_of (threads_in v) 256) (unthreaded_of (threads_in v) 256) (let h = up-to-below (unwriting v.links) 256 in omega (arith, h))
 
   pub writers-enough : (n : ℕ) → n ≤ 256 → (K ρ : List ℕ) → write_marked (given_of v σ w) K (writers (given_of v σ w) n) 0 ρ ≡ write_marked (given_of v σ w) K n 0 ρ
   writers-enough n few K ρ =

@@ -3,7 +3,7 @@ use Rattle.std.specs.Prelude.{Bool, true, cond, List, ℕ, zero, suc, ◌+◌, �
 use Rattle.std.proofs.lemmas.List.Edits.{sets}
 use Rattle.words.specs.Words.{part1}
 use Rattle.monitor.specs.Letters.{Given, thread_row_of, threaded, unthreaded, write_letter}
-use Rattle.monitor.specs.Walk.{Told, told, askM, leaveM}
+use Rattle.monitor.specs.Walk.{Told, told, ask_m, leave_m}
 
 -- 4 calls for each row are enough
 abbrev pub steps : ℕ
@@ -83,7 +83,7 @@ and_then a f = cond a.yes (f a.memory) a
 
 -- letter l is left, if it is marked
 abbrev pub letter_goes : Given → (places marks : List ℕ) → (l : ℕ) → List ℕ → Told
-letter_goes g places marks l M = cond (eqb (get_or marks l 0) 0) (told true M) (leaveM steps g (get_or places l 0) M)
+letter_goes g places marks l M = cond (eqb (get_or marks l 0) 0) (told true M) (leave_m steps g (get_or places l 0) M)
 
 -- the first marked letter of n from l on, or the one behind them
 unfoldable pub first_marked : (marks : List ℕ) → (n l : ℕ) → ℕ
@@ -97,7 +97,7 @@ letters_go g places marks (suc n) l M = and_then (letter_goes g places marks l M
 
 -- monitor i is asked, if it is at its start
 abbrev pub start_goes : Given → (own marks : List ℕ) → (i : ℕ) → List ℕ → Told
-start_goes g own marks i M = cond (eqb (get_or marks (256 + i) 0) 0) (told true M) (askM steps g (get_or own i 0) M)
+start_goes g own marks i M = cond (eqb (get_or marks (256 + i) 0) 0) (told true M) (ask_m steps g (get_or own i 0) M)
 
 -- its letters are those from its own first up to the next monitor's
 abbrev pub letters_end : (firsts : List ℕ) → (monitors letters i : ℕ) → ℕ

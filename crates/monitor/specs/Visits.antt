@@ -51,15 +51,15 @@ leave_on_visits g enter ask leave come u r M = cond (eqb u r) (ask r M) (cond (l
 
 -- the two, with a falling count
 unfoldable mutual
-  pub askVisits : ℕ → Given → Visits
-  askVisits zero g r M = 1
-  askVisits (suc n) g r M = 1 + enter_visits n g r M + asked_visits (λ a b. leaveVisits n g a b) r (enter_m n g r M)
+  pub ask_visits : ℕ → Given → Visits
+  ask_visits zero g r M = 1
+  ask_visits (suc n) g r M = 1 + enter_visits n g r M + asked_visits (λ a b. leave_visits n g a b) r (enter_m n g r M)
 
-  pub leaveVisits : ℕ → Given → Visits
-  leaveVisits zero g r M = 1
-  leaveVisits (suc n) g r M =
+  pub leave_visits : ℕ → Given → Visits
+  leave_visits zero g r M = 1
+  leave_visits (suc n) g r M =
       1 + cond (leb 1024 r) 0
-      (leave_on_visits g (λ a b. enter_visits n g a b) (λ a b. askVisits n g a b) (λ a b. leaveVisits n g a b) (λ a b. enter_m n g a b) (part3 (get_or g.table r 0)) r M)
+      (leave_on_visits g (λ a b. enter_visits n g a b) (λ a b. ask_visits n g a b) (λ a b. leave_visits n g a b) (λ a b. enter_m n g a b) (part3 (get_or g.table r 0)) r M)
 
 -- ---- a tick
 
@@ -71,12 +71,12 @@ and_visits a f = cond a.yes (f a.memory) 0
 unfoldable pub letters_visits : Given → (places marks : List ℕ) → (n l : ℕ) → List ℕ → ℕ
 letters_visits g places marks zero l M = 0
 letters_visits g places marks (suc n) l M =
-    cond (eqb (get_or marks l 0) 0) 0 (leaveVisits steps g (get_or places l 0) M) + and_visits (letter_goes g places marks l M) (letters_visits g places marks n (suc l))
+    cond (eqb (get_or marks l 0) 0) 0 (leave_visits steps g (get_or places l 0) M) + and_visits (letter_goes g places marks l M) (letters_visits g places marks n (suc l))
 
 -- monitor i is asked, if it is at its start, and its letters are left
 unfoldable pub monitor_visits : Given → Layout → (marks : List ℕ) → (i : ℕ) → List ℕ → ℕ
 monitor_visits g y marks i M =
-    cond (eqb (get_or marks (256 + i) 0) 0) 0 (askVisits steps g (get_or y.own i 0) M)
+    cond (eqb (get_or marks (256 + i) 0) 0) 0 (ask_visits steps g (get_or y.own i 0) M)
     + and_visits (start_goes g y.own marks i M)
     (letters_visits g y.places marks (letters_end y.firsts y.monitors y.letters i - get_or y.firsts i 0) (get_or y.firsts i 0))
 

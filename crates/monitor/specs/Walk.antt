@@ -1,7 +1,7 @@
 -- The walk over rows, with what entering each came to remembered for one tick: asking a row and leaving a row take turns until letters are reached (docs/REFERENCE.md, F6 to
 -- F10). Leaving a row never forks, so the rows asked and left from one position are a line.
 -- Over any rows: a row that is not there answers no, and so does a walk that is deeper than its count. On every table a tick is some million calls at most. A position's
--- line is askM and leaveM in turn, 4,096 together (Ticks.steps), each of which enters one row; there are 288 positions. What entering a row came to is kept when that entering
+-- line is ask_m and leave_m in turn, 4,096 together (Ticks.steps), each of which enters one row; there are 288 positions. What entering a row came to is kept when that entering
 -- ends, so enterings of one row that do more than look it up stand inside each other, and these too are 4,096 at most. Assumes nothing.
 use Rattle.std.specs.Prelude.{Bool, true, false, cond, List, ℕ, zero, suc, ◌+◌, eqb, leb, get_or, set}
 use Rattle.words.specs.Words.{part0, part1, part2, part3}
@@ -96,12 +96,12 @@ leave_on g enter ask leave u r M = cond (eqb u r) (ask r M) (cond (leb 1024 u) (
 
 -- the two, with a falling count
 unfoldable mutual
-  pub askM : ℕ → Given → Call
-  askM zero g r M = told false M
-  askM (suc n) g r M = ask_from (λ a b. leaveM n g a b) r (enter_m n g r M)
+  pub ask_m : ℕ → Given → Call
+  ask_m zero g r M = told false M
+  ask_m (suc n) g r M = ask_from (λ a b. leave_m n g a b) r (enter_m n g r M)
 
-  pub leaveM : ℕ → Given → Call
-  leaveM zero g r M = told false M
-  leaveM (suc n) g r M =
+  pub leave_m : ℕ → Given → Call
+  leave_m zero g r M = told false M
+  leave_m (suc n) g r M =
       cond (leb 1024 r) (told false M)
-      (leave_on g (λ a b. enter_m n g a b) (λ a b. askM n g a b) (λ a b. leaveM n g a b) (part3 (get_or g.table r 0)) r M)
+      (leave_on g (λ a b. enter_m n g a b) (λ a b. ask_m n g a b) (λ a b. leave_m n g a b) (part3 (get_or g.table r 0)) r M)

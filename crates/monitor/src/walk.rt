@@ -3,7 +3,7 @@
 // asked and left from one position are a line, and a letter that is marked stays marked unless the tick is bad.
 ghost use Rattle.std.specs.Prelude.{◌≡◌};
 ghost use Rattle.monitor.specs.Letters.{given};
-ghost use Rattle.monitor.specs.Walk.{came, told, enter_letter, enter_second, enter_on, enter_m, askM, leaveM};
+ghost use Rattle.monitor.specs.Walk.{came, told, enter_letter, enter_second, enter_on, enter_m, ask_m, leave_m};
 
 use super::letters::letter_met;
 use super::tables::ROWS;
@@ -149,7 +149,7 @@ pub(crate) fn ask(
     words: &[u64; 2],
     values: &[u64; 16],
 ) -> bool
-    ensures { told result memory.new ≡ askM steps (given tables.now values.now words.now) row memory.old }
+    ensures { told result memory.new ≡ ask_m steps (given tables.now values.now words.now) row memory.old }
 {
     if steps == 0 {
         return false;
@@ -175,7 +175,7 @@ pub(crate) fn leave(
     words: &[u64; 2],
     values: &[u64; 16],
 ) -> bool
-    ensures { told result memory.new ≡ leaveM steps (given tables.now values.now words.now) row memory.old }
+    ensures { told result memory.new ≡ leave_m steps (given tables.now values.now words.now) row memory.old }
 {
     if steps == 0 {
         return false;

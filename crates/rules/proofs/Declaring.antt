@@ -73,9 +73,9 @@ module _ {text P S : List ℕ} {pos c : ℕ} {scope : Scope} (r : Ready text P S
   ready-names = let (ns, k) = r.names in (c, ns.declared, omega (arith, r.room.fits, r.room.inside), k.cells)
 
   -- there is room for the cell of a name, and its numbers are small
-  pub name-room : (noWire full : Bool) (place after : ℕ) → NewAt text P scope pos noWire full place after
+  pub name-room : (no_wire full : Bool) (place after : ℕ) → NewAt text P scope pos no_wire full place after
       → (c + 2 ≤ length P) × (c + 2 ≤ 65535) × (scope.last < 65536) × (place < 65536) × (after - place < 65536)
-  name-room noWire full place after m =
+  name-room no_wire full place after m =
       let q = r.room in
       let (ns, k) = r.names in
       let fits : c + 2 ≤ length P = omega (arith, q.fits, m.low, m.some, m.inside) in

@@ -29,12 +29,12 @@ use Rattle.rules.proofs.OnNumber.{on-token}
 
 -- ---- what the function answers
 
-module _ (text P : List ℕ) (scope : Scope) (pos : ℕ) (noWire full : Bool) (t : Seen) (e : Sees text pos t) where
-  pub new_none : (t.kind ≡ 18 → ⊥) → NameRead text P scope pos noWire full t.fault t.place t.after
+module _ (text P : List ℕ) (scope : Scope) (pos : ℕ) (no_wire full : Bool) (t : Seen) (e : Sees text pos t) where
+  pub new_none : (t.kind ≡ 18 → ⊥) → NameRead text P scope pos no_wire full t.fault t.place t.after
   unfolding NameRead new_name
   new_none q =
       faulted (faults text pos t e) (λ c ns k n next.
-      ap (λ (u : Placed). new_name ns u noWire full next) (sym e.token) ∙ no_name text pos t e q _)
+      ap (λ (u : Placed). new_name ns u no_wire full next) (sym e.token) ∙ no_name text pos t e q _)
 
   module _ (q : t.kind ≡ 18) (r : ℕ) (f : Finds text P scope.last (bytes_of text t) r) where
     -- the token
@@ -45,13 +45,13 @@ module _ (text P : List ℕ) (scope : Scope) (pos : ℕ) (noWire full : Bool) (t
     is_name = sym e.token ∙ name-is text pos t e q
 
     -- what it leads to
-    tests : (ns : Names) (next : List ℕ → Step) → new_name ns (token_at rule_words text pos) noWire full next
+    tests : (ns : Names) (next : List ℕ → Step) → new_name ns (token_at rule_words text pos) no_wire full next
         ≡ unless (is_known (lookup (bytes_of text t) ns.declared)) twice name
-        (unless noWire oversize name (unless (full || leb 128 (length ns.declared)) crowded name (next (bytes_of text t))))
+        (unless no_wire oversize name (unless (full || leb 128 (length ns.declared)) crowded name (next (bytes_of text t))))
     unfolding new_name on_name if_name
-    tests ns next = ap (λ (u : Placed). new_name ns u noWire full next) is_name
+    tests ns next = ap (λ (u : Placed). new_name ns u no_wire full next) is_name
 
-    pub new-known : (r ≡ 0 → ⊥) → NameRead text P scope pos noWire full 5 t.place t.after
+    pub new-known : (r ≡ 0 → ⊥) → NameRead text P scope pos no_wire full 5 t.place t.after
     unfolding NameRead
     new-known n =
         faulted (λ z. omega arith) (λ c ns k m next.
@@ -64,28 +64,28 @@ module _ (text P : List ℕ) (scope : Scope) (pos : ℕ) (noWire full : Bool) (t
       not_known : (c : ℕ) (ns : Names) → Cells text P c scope.last ns.declared → is_known (lookup (bytes_of text t) ns.declared) ≡ false
       not_known c ns k = ap is_known (not_found c ns k)
 
-      pub new-wireless : noWire ≡ true → NameRead text P scope pos noWire full 6 t.place t.after
+      pub new-wireless : no_wire ≡ true → NameRead text P scope pos no_wire full 6 t.place t.after
       unfolding NameRead
       new-wireless w = faulted (λ z. omega arith) (λ c ns k m next. tests ns next ∙ right _ _ _ _ (not_known c ns k) ∙ wrong _ _ _ _ w)
 
-      module _ (w : noWire ≡ false) where
-        crowd : full || leb 128 scope.count ≡ true → NameRead text P scope pos noWire full 7 t.place t.after
+      module _ (w : no_wire ≡ false) where
+        crowd : full || leb 128 scope.count ≡ true → NameRead text P scope pos no_wire full 7 t.place t.after
         unfolding NameRead
         crowd l =
             faulted (λ z. omega arith) (λ c ns k m next.
             tests ns next ∙ right _ _ _ _ (not_known c ns k) ∙ right _ _ _ _ w ∙ wrong _ _ _ _ (subst (λ (j : ℕ). full || leb 128 j ≡ true) m l))
 
-        pub new-full : full ≡ true → NameRead text P scope pos noWire full 7 t.place t.after
+        pub new-full : full ≡ true → NameRead text P scope pos no_wire full 7 t.place t.after
         new-full l = crowd (ap (λ (b : Bool). b || leb 128 scope.count) l)
 
         module _ (o : full ≡ false) where
           counted : (b : Bool) → leb 128 scope.count ≡ b → full || leb 128 scope.count ≡ b
           counted b l = ap (λ (b : Bool). b || leb 128 scope.count) o ∙ l
 
-          pub new-crowded : 128 ≤ scope.count → NameRead text P scope pos noWire full 7 t.place t.after
+          pub new-crowded : 128 ≤ scope.count → NameRead text P scope pos no_wire full 7 t.place t.after
           new-crowded l = crowd (counted true (le-leb 128 scope.count l))
 
-          pub new-read : scope.count < 128 → NameRead text P scope pos noWire full 0 t.place t.after
+          pub new-read : scope.count < 128 → NameRead text P scope pos no_wire full 0 t.place t.after
           unfolding NameRead
           new-read l =
               let y = subst (Lies text pos) is_name (lies rule_words text pos) in
@@ -107,13 +107,13 @@ module _ (text P : List ℕ) (scope : Scope) (pos : ℕ) (noWire full : Bool) (t
 
 -- ---- reading on, in a state in which a new name is expected
 
-module _ (text P : List ℕ) (scope : Scope) (pos : ℕ) (noWire full : Bool) (f place after : ℕ) (r : NameRead text P scope pos noWire full f place after) where
-  pub name-read : f ≡ 0 → NewAt text P scope pos noWire full place after
+module _ (text P : List ℕ) (scope : Scope) (pos : ℕ) (no_wire full : Bool) (f place after : ℕ) (r : NameRead text P scope pos no_wire full f place after) where
+  pub name-read : f ≡ 0 → NewAt text P scope pos no_wire full place after
   unfolding NameRead
   name-read z = well r z
 
   module _ (c : ℕ) (ns : Names) (k : Cells text P c scope.last ns.declared) (n : scope.count ≡ length ns.declared) (x : Expect) (next : List ℕ → Step)
-      (new : step ns x (token_at rule_words text pos) ≡ new_name ns (token_at rule_words text pos) noWire full next) where
+      (new : step ns x (token_at rule_words text pos) ≡ new_name ns (token_at rule_words text pos) no_wire full next) where
     pub name-refused : (f ≡ 0 → ⊥) → read_from text pos ns x ≡ refused f (byte place)
     unfolding NameRead
     name-refused b = on-token text pos _ refl ns x _ (new ∙ ill r b c ns k n next)

@@ -64,24 +64,24 @@ pub record Declares (text : List ℕ) (state : Expect) (P S : List ℕ) (pos c :
 -- ---- a new name
 
 -- The token at a position is a name that is not declared (X5), and there is room for it (X6, X7).
-pub record NewAt (text P : List ℕ) (scope : Scope) (pos : ℕ) (noWire full : Bool) (place after : ℕ) : Type 0 where
+pub record NewAt (text P : List ℕ) (scope : Scope) (pos : ℕ) (no_wire full : Bool) (place after : ℕ) : Type 0 where
   pub low : pos ≤ place
   pub some : place < after
   pub inside : after ≤ length text
   pub token : token_at rule_words text pos ≡ placed (token.name (take (after - place) (drop place text))) place after
-  pub wire : noWire ≡ false
+  pub wire : no_wire ≡ false
   pub room : full ≡ false
   pub few : scope.count < 128
   pub leads : (c : ℕ) → (ns : Names) → Cells text P c scope.last ns.declared → scope.count ≡ length ns.declared
       → (lookup (take (after - place) (drop place text)) ns.declared ≡ none)
-      × ((next : List ℕ → Step) → new_name ns (token_at rule_words text pos) noWire full next ≡ next (take (after - place) (drop place text)))
+      × ((next : List ℕ → Step) → new_name ns (token_at rule_words text pos) no_wire full next ≡ next (take (after - place) (drop place text)))
 
-unfoldable pub NameRead : (text P : List ℕ) → Scope → (pos : ℕ) → (noWire full : Bool) → (f place after : ℕ) → Type 0
-NameRead text P scope pos noWire full f place after =
+unfoldable pub NameRead : (text P : List ℕ) → Scope → (pos : ℕ) → (no_wire full : Bool) → (f place after : ℕ) → Type 0
+NameRead text P scope pos no_wire full f place after =
     Unless f
-    (NewAt text P scope pos noWire full place after)
+    (NewAt text P scope pos no_wire full place after)
     ((c : ℕ) → (ns : Names) → Cells text P c scope.last ns.declared → scope.count ≡ length ns.declared
-    → (next : List ℕ → Step) → new_name ns (token_at rule_words text pos) noWire full next ≡ fault f place)
+    → (next : List ℕ → Step) → new_name ns (token_at rule_words text pos) no_wire full next ≡ fault f place)
 
 -- the words of a name: its kind, the cell before it, its place and length, and two numbers
 pub record NameWritten (P : List ℕ) (c kind last place size a b : ℕ) (Q : List ℕ) : Type 0 where

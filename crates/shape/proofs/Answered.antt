@@ -6,7 +6,7 @@ use borrow.Author.Tests.{lt-ltb, le-ltb}
 use Rattle.refusals.specs.Numbers.{open_end, fork}
 use Rattle.meaning.specs.ShapeTests.{Shape, accepted, turned_away}
 use Rattle.shape.specs.Ends.{open_at}
-use Rattle.shape.specs.Sides.{forkAt}
+use Rattle.shape.specs.Sides.{fork_at}
 use Rattle.shape.specs.Lowest.{lowest}
 use Rattle.shape.specs.Judge.{or_rest, judge_of, shown_judged}
 use Rattle.shape.specs.declared.Judged.TheVariants.{Fine, OpenEnd, Fork}
@@ -23,7 +23,7 @@ module _ (kind left right look want : List ℕ) (row first end : ℕ) {a : ℕ} 
   unfolding judge_of
   judge-open h = sym (at-fault first end open_end _ is-a h)
 
-  module _ {b : ℕ} (none : end ≤ a) (is_b : b ≡ lowest (forkAt kind left right look want row) first (end - first)) where
+  module _ {b : ℕ} (none : end ≤ a) (is_b : b ≡ lowest (fork_at kind left right look want row) first (end - first)) where
     pub judge-fork : b < end → shown_judged (Fork (b - first)) ≡ judge_of kind left right look want row first end
     unfolding judge_of
     judge-fork h = sym (at_rest first end open_end _ is-a none ∙ at-fault first end fork accepted is_b h)

@@ -5,7 +5,7 @@ use Prim.Native.Nat.{ℕ, zero, suc, ◌-◌}
 use native.Mathlib.Omega.{arith}
 use lib.ListN.{get_or, get_or-map}
 use borrow.Author.Tests.{ne_eqb}
-use Rattle.shape.specs.Walk.{by_kind, by_operator, walkAt}
+use Rattle.shape.specs.Walk.{by_kind, by_operator, walk_at}
 
 -- what a row's word has is what the list of it has at that row
 pub part_at : (f : ℕ → ℕ) → f 0 ≡ 0 → (T : List ℕ) (row : ℕ) {w k : ℕ} → w ≡ get_or T row 0 → k ≡ f w → k ≡ get_or (map f T) row 0
@@ -32,16 +32,16 @@ module _ {A : Type 0} (k : ℕ) (x y z : A) where
 
 module _ {A : Type 0} (kind left right : List ℕ) (nothing : A) (letter : ℕ → A) (star : A → A) (two : ℕ → A → A → A) where
   abbrev walk : (n row : ℕ) → A
-  walk n row = walkAt kind left right nothing letter star two n row
+  walk n row = walk_at kind left right nothing letter star two n row
 
   pub walk_none : (n row : ℕ) → n ≡ 0 → walk n row ≡ nothing
-  unfolding walkAt
+  unfolding walk_at
   walk_none n row p = rw p
 
   walk_step : (n row : ℕ) → (n ≡ 0 → ⊥) → walk n row
       ≡ by_kind (get_or kind row 0) (letter (get_or left row 0)) (star (walk (n - 1) (get_or left row 0)))
       (two (get_or kind row 0) (walk (n - 1) (get_or left row 0)) (walk (n - 1) (get_or right row 0)))
-  unfolding walkAt
+  unfolding walk_at
   walk_step zero row p = absurd (p refl)
   walk_step (suc n) row p = let e : suc n - 1 ≡ n = omega arith in rw e
 

@@ -36,11 +36,11 @@ some_first (pipe e f) = some_first e
 
 module _ (n : ℕ) where
   -- it is an open end of the thread
-  abbrev pub endsOpen : Exp → Bool
-  endsOpen f = last n f && not (null (follow n f))
+  abbrev pub ends_open : Exp → Bool
+  ends_open f = last n f && not (null (follow n f))
 
   abbrev ends_of : Exp → Ends
-  ends_of e = record { nullable = nullable e; last = last n e; followed = not (null (follow n e)); fault = any endsOpen (threads e) }
+  ends_of e = record { nullable = nullable e; last = last n e; followed = not (null (follow n e)); fault = any ends_open (threads e) }
 
   abbrev made : Exp → Ends
   made e = folded (λ l. letter_ends (eqb n l.number)) star_ends joined_ends e
@@ -55,8 +55,8 @@ module _ (n : ℕ) where
   same a b p q = ap₂ (λ (x y : Bool). record { nullable = a; last = b; followed = x; fault = y }) p q
 
   -- threads of two parts
-  faults : (e f : Exp) → any endsOpen (threads e) || any endsOpen (threads f) ≡ any endsOpen (threads e ++ threads f)
-  faults e f = sym (any_append endsOpen (threads e) (threads f))
+  faults : (e f : Exp) → any ends_open (threads e) || any ends_open (threads f) ≡ any ends_open (threads e ++ threads f)
+  faults e f = sym (any_append ends_open (threads e) (threads f))
 
   pub ends-right : (e : Exp) → made e ≡ ends_of e
   unfolding folded nullable last follow threads
@@ -70,4 +70,4 @@ module _ (n : ℕ) where
       ∙ same _ _ (sym (some-append (follow n e) (only (last n e) (first e)) ∙ ap (λ (b : Bool). not (null (follow n e)) || b) (followed-by e e))) refl
   ends-right (pipe e f) =
       ap₂ (joined_ends 4) (ends-right e) (ends-right f)
-      ∙ same _ _ (sym (some-append (follow n e) (follow n f))) (ap (λ (b : Bool). endsOpen f || b) (faults e f))
+      ∙ same _ _ (sym (some-append (follow n e) (follow n f))) (ap (λ (b : Bool). ends_open f || b) (faults e f))

@@ -24,12 +24,12 @@ use Rattle.meaning.proofs.Threads.{threads-letters}
 use Rattle.meaning.proofs.Shaped.{least-in, least-le}
 use Rattle.meaning.proofs.Summary.{rules11and12}
 use Rattle.shape.specs.Ends.{Ends, letter_ends, star_ends, joined_ends, open_at}
-use Rattle.shape.specs.Sides.{Sides, letter_sides, star_sides, joined_sides, rivals, forkAt}
+use Rattle.shape.specs.Sides.{Sides, letter_sides, star_sides, joined_sides, rivals, fork_at}
 use Rattle.shape.specs.Lowest.{lowest}
 use Rattle.shape.specs.Judge.{or_rest, judge_of}
 use Rattle.shape.specs.Held.{RowsHold}
 use Rattle.shape.proofs.Walked.{behind, walk-held}
-use Rattle.shape.proofs.EndsRight.{endsOpen, ends-right}
+use Rattle.shape.proofs.EndsRight.{ends_open, ends-right}
 use Rattle.shape.proofs.SidesRight.{made, forks-right, first-forks}
 
 -- ---- the lowest letter at fault
@@ -132,7 +132,7 @@ module _ (kind left right looks wants : List ℕ) (row start : ℕ) (m : Exp) (h
 
   -- ---- 11
 
-  open-right : (k : ℕ) → open_at kind left right row (start + k) ≡ any (endsOpen k) (threads m)
+  open-right : (k : ℕ) → open_at kind left right row (start + k) ≡ any (ends_open k) (threads m)
   unfolding open_at
   open-right k = ap (λ (e : Ends). e.fault)
       (walk-held kind left right looks wants (letter_ends false) (λ a. letter_ends (eqb a (start + k))) star_ends joined_ends start (λ l. letter_ends (eqb k l.number))
@@ -142,13 +142,13 @@ module _ (kind left right looks wants : List ℕ) (row start : ℕ) (m : Exp) (h
   open-exactly : (k : ℕ) → k < size m → T (open_at kind left right row (start + k)) ↔ k ∈ open_ends m
   open-exactly k h = (
     λ t.
-        let (f, i, u) = any-to (endsOpen k) (threads m) (subst T (open-right k) t) in
+        let (f, i, u) = any-to (ends_open k) (threads m) (subst T (open-right k) t) in
         let (a, b) = and_T (last k f) (not (null (follow k f))) u in
         let (x, j) = some_in (follow k f) b in
         (open-end-at m k).1 (f, x, i, a, j),
     λ i.
         let (f, x, j, a, b) = (open-end-at m k).0 i in
-        subst T (sym (open-right k)) (any-from (endsOpen k) j (T_and (last k f) (not (null (follow k f))) a (in_some b))),
+        subst T (sym (open-right k)) (any-from (ends_open k) j (T_and (last k f) (not (null (follow k f))) a (in_some b))),
   )
 
   open-inside : (k : ℕ) → k ∈ open_ends m → k < size m
@@ -165,8 +165,8 @@ module _ (kind left right looks wants : List ℕ) (row start : ℕ) (m : Exp) (h
   rival : ℕ → Letter → Bool
   rival k x = not (eqb k x.number) && compatible (get_or looks (start + k) 0) (get_or wants (start + k) 0) (look x.literals) (want x.literals)
 
-  fork-right : (k : ℕ) → forkAt kind left right looks wants row (start + k) ≡ (star_sides (made (own k) (rival k) m)).fork
-  unfolding forkAt own rival
+  fork-right : (k : ℕ) → fork_at kind left right looks wants row (start + k) ≡ (star_sides (made (own k) (rival k) m)).fork
+  unfolding fork_at own rival
   fork-right k = ap (λ (s : Sides). (star_sides s).fork)
       (walk-held kind left right looks wants (letter_sides false false)
       (λ a. letter_sides (eqb a (start + k)) (not (eqb a (start + k)) && rivals looks wants (start + k) a)) star_sides joined_sides start
@@ -210,7 +210,7 @@ module _ (kind left right looks wants : List ℕ) (row start : ℕ) (m : Exp) (h
         (not_T (eqb k y.number) (λ e. d (is-k ∙ eqb→eq k y.number e)))
         (subst T (sym at-k) (agree-compatible x.literals y.literals (sized x i) (sized y j) (agreed x i) (agreed y j) t))
 
-  fork-exactly : (k : ℕ) → k < size m → T (forkAt kind left right looks wants row (start + k)) ↔ k ∈ ambiguous m
+  fork-exactly : (k : ℕ) → k < size m → T (fork_at kind left right looks wants row (start + k)) ↔ k ∈ ambiguous m
   unfolding own threads
   fork-exactly k h = (
     λ t. ⊎_elim
@@ -250,5 +250,5 @@ module _ (kind left right looks wants : List ℕ) (row start : ℕ) (m : Exp) (h
   judge-right =
       rule-right open_end _ (open_at kind left right row) start (size m) (open_ends m) open-exactly open-inside _ (whole (open_at kind left right row))
       ∙ ap (first_of open_end (open_ends m))
-      (rule-right fork accepted (forkAt kind left right looks wants row) start (size m) (ambiguous m) fork-exactly fork-inside _
-      (whole (forkAt kind left right looks wants row)))
+      (rule-right fork accepted (fork_at kind left right looks wants row) start (size m) (ambiguous m) fork-exactly fork-inside _
+      (whole (fork_at kind left right looks wants row)))

@@ -6,7 +6,7 @@ use native.Mathlib.Omega.{arith}
 use lib.ListN.{get_or}
 use Rattle.meaning.specs.Expression.{Letter, Exp, letter, seq, alt, star, pipe, size, rows, Ordered}
 use Rattle.masks.specs.Masks as masks
-use Rattle.shape.specs.Walk.{walkAt}
+use Rattle.shape.specs.Walk.{walk_at}
 use Rattle.shape.specs.Held.{RowsHold}
 use Rattle.shape.proofs.ByKind.{walk-letter, walk-star, walk-two}
 
@@ -29,7 +29,7 @@ module _ {A : Type 0} (kind left right look want : List ℕ) (nothing : A) (by_i
     (first : ℕ) (of_letter : Letter → A) (same : (x : Letter) → get_or look (first + x.number) 0 ≡ masks.look x.literals
     → get_or want (first + x.number) 0 ≡ masks.want x.literals → by_index (first + x.number) ≡ of_letter x) where
   abbrev walk : (n row : ℕ) → A
-  walk n row = walkAt kind left right nothing by_index of_star of_two n row
+  walk n row = walk_at kind left right nothing by_index of_star of_two n row
 
   abbrev fold : Exp → A
   fold e = folded of_letter of_star of_two e

@@ -1,6 +1,6 @@
 -- Rule 11 (docs/REFERENCE.md, S12) on rows: what a row has of one letter. Assumes nothing.
 use Rattle.std.specs.Prelude.{Bool, true, false, ◌&&◌, ◌||◌, List, ℕ, eqb}
-use Rattle.shape.specs.Walk.{by_operator, walkAt}
+use Rattle.shape.specs.Walk.{by_operator, walk_at}
 use Rattle.shape.specs.Sets.{has}
 use Rattle.shape.specs.declared.ends.EndSets.{EndSets}
 
@@ -51,7 +51,7 @@ ends_of x s = record { nullable = s.nullable; last = has x s.last; followed = ha
 module _ (kind left right : List ℕ) where
   -- what a row has of a letter; the walk goes at most n deep
   abbrev pub ends_at : (letter n row : ℕ) → Ends
-  ends_at letter n row = walkAt kind left right (letter_ends false) (λ a. letter_ends (eqb a letter)) star_ends joined_ends n row
+  ends_at letter n row = walk_at kind left right (letter_ends false) (λ a. letter_ends (eqb a letter)) star_ends joined_ends n row
 
   -- S12: the letter is an open end of a thread in the monitor at a row
   unfoldable pub open_at : ℕ → ℕ → Bool

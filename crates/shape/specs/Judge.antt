@@ -3,7 +3,7 @@ use Rattle.std.specs.Prelude.{cond, List, ℕ, ◌-◌, ltb}
 use Rattle.refusals.specs.Numbers.{open_end, fork}
 use Rattle.meaning.specs.ShapeTests.{Shape, accepted, turned_away}
 use Rattle.shape.specs.Ends.{open_at}
-use Rattle.shape.specs.Sides.{forkAt}
+use Rattle.shape.specs.Sides.{fork_at}
 use Rattle.shape.specs.Lowest.{lowest}
 use Rattle.shape.specs.declared.Judged.{Judged}
 use Rattle.shape.specs.declared.Judged.TheVariants.{Fine, OpenEnd, Fork}
@@ -16,7 +16,7 @@ or_rest first end rule letter rest = cond (ltb letter end) (turned_away rule (le
 unfoldable pub judge_of : (kind left right look want : List ℕ) → (row first end : ℕ) → Shape
 judge_of kind left right look want row first end =
     or_rest first end open_end (lowest (open_at kind left right row) first (end - first))
-    (or_rest first end fork (lowest (forkAt kind left right look want row) first (end - first)) accepted)
+    (or_rest first end fork (lowest (fork_at kind left right look want row) first (end - first)) accepted)
 
 -- what an answer of the code says: the rule and the letter, or that both are kept
 abbrev pub shown_judged : Judged → Shape

@@ -1,7 +1,7 @@
 -- Rule 12 (docs/REFERENCE.md, S13) on rows: what a row has of one letter and its rivals, the others that one word meets together with it. Assumes nothing.
 use Rattle.std.specs.Prelude.{Bool, true, false, not, ◌&&◌, ◌||◌, List, ℕ, eqb, get_or}
 use Rattle.masks.specs.Masks.{compatible}
-use Rattle.shape.specs.Walk.{by_operator, walkAt}
+use Rattle.shape.specs.Walk.{by_operator, walk_at}
 use Rattle.shape.specs.Sets.{has}
 use Rattle.shape.specs.declared.sides.SideSets.{SideSets}
 
@@ -82,10 +82,10 @@ sides_of x s = record {
 
 module _ (kind left right look want : List ℕ) where
   -- what a row has of a letter and its rivals; the walk goes at most n deep
-  abbrev pub sidesAt : (letter n row : ℕ) → Sides
-  sidesAt letter n row =
-      walkAt kind left right (letter_sides false false) (λ a. letter_sides (eqb a letter) (not (eqb a letter) && rivals look want letter a)) star_sides joined_sides n row
+  abbrev pub sides_at : (letter n row : ℕ) → Sides
+  sides_at letter n row =
+      walk_at kind left right (letter_sides false false) (λ a. letter_sides (eqb a letter) (not (eqb a letter) && rivals look want letter a)) star_sides joined_sides n row
 
   -- S8: the letter is side by side with a rival in the monitor at a row; S6: "its first letters come next after its last ones", as in a star
-  unfoldable pub forkAt : ℕ → ℕ → Bool
-  forkAt row letter = (star_sides (sidesAt letter 1024 row)).fork
+  unfoldable pub fork_at : ℕ → ℕ → Bool
+  fork_at row letter = (star_sides (sides_at letter 1024 row)).fork

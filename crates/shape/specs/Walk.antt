@@ -23,8 +23,8 @@ by_operator k seq alt pipe = cond (eqb k 1) seq (cond (eqb k 2) alt pipe)
 -- what is made of nothing, of a letter by its index, of a star, and of an operator of two operands by its kind
 module _ {A : Type 0} (kind left right : List ℕ) (nothing : A) (letter : ℕ → A) (star : A → A) (two : ℕ → A → A → A) where
   -- n bounds how deep the walk goes
-  unfoldable pub walkAt : (n row : ℕ) → A
-  walkAt zero row = nothing
-  walkAt (suc n) row =
-      by_kind (get_or kind row 0) (letter (get_or left row 0)) (star (walkAt n (get_or left row 0)))
-      (two (get_or kind row 0) (walkAt n (get_or left row 0)) (walkAt n (get_or right row 0)))
+  unfoldable pub walk_at : (n row : ℕ) → A
+  walk_at zero row = nothing
+  walk_at (suc n) row =
+      by_kind (get_or kind row 0) (letter (get_or left row 0)) (star (walk_at n (get_or left row 0)))
+      (two (get_or kind row 0) (walk_at n (get_or left row 0)) (walk_at n (get_or right row 0)))

@@ -5,7 +5,7 @@
 ghost use Rattle.std.specs.Prelude.{not, ◌&&◌, ◌≡◌, ℕ, ◌+◌, ◌-◌, ◌≤◌, ◌<◌, eqb};
 ghost use Rattle.shape.specs.Walk.{kinds, lefts, rights};
 ghost use Rattle.shape.specs.Sets.{has, Passing};
-ghost use Rattle.shape.specs.Sides.{letter_sides, linked, seq_sides, alt_sides, star_sides, pipe_sides, joined_sides, rivals, sides_of, sidesAt, forkAt};
+ghost use Rattle.shape.specs.Sides.{letter_sides, linked, seq_sides, alt_sides, star_sides, pipe_sides, joined_sides, rivals, sides_of, sides_at, fork_at};
 ghost use Rattle.shape.specs.Lowest.{lowest};
 
 use super::sets::{in_front, kept, lowest_in, one, stop_of, without};
@@ -168,7 +168,7 @@ fn sides_at(
     fuel: usize,
     row: usize,
 ) -> SideSets
-    ensures { (x : ℕ) → x < 64 → first + x < stop → sides_of x result ≡ sidesAt (kinds table.now) (lefts table.now) (rights table.now) look.now want.now (first + x) fuel row }
+    ensures { (x : ℕ) → x < 64 → first + x < stop → sides_of x result ≡ sides_at (kinds table.now) (lefts table.now) (rights table.now) look.now want.now (first + x) fuel row }
 {
     if fuel == 0 {
         return letter_sides(0, 0);
@@ -198,7 +198,7 @@ fn forks_from(
     first: usize,
     stop: usize,
 ) -> u64
-    ensures { Passing (forkAt (kinds table.now) (lefts table.now) (rights table.now) look.now want.now row) first stop result }
+    ensures { Passing (fork_at (kinds table.now) (lefts table.now) (rights table.now) look.now want.now row) first stop result }
 {
     let e = sides_at(table, look, want, first, stop, 1024, row);
     let again = star_sides(e);
@@ -214,7 +214,7 @@ pub(crate) fn lowest_fork(
     first: usize,
     end: usize,
 ) -> usize
-    ensures { result ≡ lowest (forkAt (kinds table.now) (lefts table.now) (rights table.now) look.now want.now row) first (end - first) }
+    ensures { result ≡ lowest (fork_at (kinds table.now) (lefts table.now) (rights table.now) look.now want.now row) first (end - first) }
 {
     let mut i = first;
     while i < end {

@@ -18,7 +18,7 @@ use Rattle.meaning.specs.Opening.{Opened, counts, counts_of, open_text}
 use Rattle.meaning.specs.Fit.{History, start, onward}
 use Rattle.meaning.specs.Limits.{judged}
 use Rattle.meaning.specs.Calls as calls
-use Rattle.meaning.specs.Calls.{Call, take, Reply, ok, bad, State, opening, reply, after, repliesFrom, stateFrom}
+use Rattle.meaning.specs.Calls.{Call, take, Reply, ok, bad, State, opening, reply, after, replies_from, state_from}
 use Rattle.meaning.specs.Totals.{totals}
 use Rattle.meaning.specs.Sheet.{tick_lines, sheet, counts_line, refusal_line, clean_line, foot}
 use Rattle.rules.specs.declared.Watch.{Watch}
@@ -36,23 +36,23 @@ module _ (o : Opened) where
   -- from here on every list of calls gets the meaning's replies, and leaves the letters counted as often as they were met
   abbrev Agree : Watch → State History → Type 0
   Agree v s = (cs : List Call)
-      → (replies_of v cs ≡ repliesFrom (judged o.limits o.monitors) (onward o.monitors) o.wires s cs)
-      × (totals_of (watch_after_all v cs) ≡ totals o.monitors (stateFrom (judged o.limits o.monitors) (onward o.monitors) o.wires s cs).inner.ticks)
+      → (replies_of v cs ≡ replies_from (judged o.limits o.monitors) (onward o.monitors) o.wires s cs)
+      × (totals_of (watch_after_all v cs) ≡ totals o.monitors (state_from (judged o.limits o.monitors) (onward o.monitors) o.wires s cs).inner.ticks)
 
   abbrev replied : State History → ℕ → Reply
   replied s w = reply (judged o.limits o.monitors) o.wires s w
 
   agree-reply : (v : Watch) (s : State History) → Agree v s → (w : ℕ) (r : Reply) → reply_of v w ≡ r → replied s w ≡ r
-  unfolding replies_of repliesFrom
+  unfolding replies_of replies_from
   agree-reply v s a w r e = sym (ap (λ (rs : List Reply). get_or rs 0 ok) (a (take w ∷ [])).0) ∙ e
 
   agree_after : (v : Watch) (s : State History) → Agree v s → (w : ℕ) (r : Reply) → replied s w ≡ r → Agree (watch_after v w) (after (onward o.monitors) s w r)
-  unfolding replies_of repliesFrom watch_after_all stateFrom
+  unfolding replies_of replies_from watch_after_all state_from
   agree_after v s a w r e =
       subst (λ (x : Reply). Agree (watch_after v w) (after (onward o.monitors) s w x)) e (λ cs. (ap (λ (rs : List Reply). drop 1 rs) (a (take w ∷ cs)).0, (a (take w ∷ cs)).1))
 
   agree-foot : (v : Watch) (s : State History) → Agree v s → foot_of v ≡ foot (totals o.monitors s.inner.ticks)
-  unfolding watch_after_all stateFrom
+  unfolding watch_after_all state_from
   agree-foot v s a = ap foot (a []).1
 
   -- a run of k records, and then the last line, prints the meaning's lines

@@ -13,7 +13,7 @@ use Rattle.trace.specs.Answer.{Answer, value, refused}
 use Rattle.trace.specs.Whole.{counted, lend, lend_answer}
 use Rattle.trace.specs.Shown.{shown_trace}
 use Rattle.trace.specs.declared.TraceRead.{TraceRead}
-use Rattle.trace.specs.declared.TraceRead.TheVariants as traceRead
+use Rattle.trace.specs.declared.TraceRead.TheVariants as trace_read
 use Rattle.trace.specs.contracts.TraceRead.{the_type}
 use Rattle.trace.proofs.Clash.{clash}
 
@@ -37,16 +37,16 @@ module _ (a : TraceRead) (r : Answer (List ℕ)) (lent : List ℕ) (counts : sho
       go : (q : Answer (List ℕ)) (b : TraceRead) → shown_trace b ≡ counted q → OneOf (1 ∷ 2 ∷ 3 ∷ []) (tag_of the_type b)
           → (shown_trace b ≡ (lend_answer q lent).answer) × (lent ≡ (lend_answer q lent).list)
       go (refused number place) b e t = (e, refl)
-      go (value ws) (traceRead.Words n) e t = absurd (⊎_elim (λ e. omega arith) (λ u. ⊎_elim (λ e. omega arith) (λ e. omega arith) u) t)
-      go (value ws) (traceRead.Torn at) e t = clash (cc)
-      go (value ws) (traceRead.Idle at) e t = clash (cc)
-      go (value ws) traceRead.Short e t = clash (cc)
+      go (value ws) (trace_read.Words n) e t = absurd (⊎_elim (λ e. omega arith) (λ u. ⊎_elim (λ e. omega arith) (λ e. omega arith) u) t)
+      go (value ws) (trace_read.Torn at) e t = clash (cc)
+      go (value ws) (trace_read.Idle at) e t = clash (cc)
+      go (value ws) trace_read.Short e t = clash (cc)
 
-  words-counted : (n : ℕ) → a ≡ traceRead.Words n → counted r ≡ value n
+  words-counted : (n : ℕ) → a ≡ trace_read.Words n → counted r ≡ value n
   words-counted n e = sym counts ∙ ap shown_trace e
 
   -- `a` is a number of words for which there is no room
-  pub words-short : (n : ℕ) → a ≡ traceRead.Words n → length lent < n → (refused short_bin 0 ≡ (lend_answer r lent).answer) × (lent ≡ (lend_answer r lent).list)
+  pub words-short : (n : ℕ) → a ≡ trace_read.Words n → length lent < n → (refused short_bin 0 ≡ (lend_answer r lent).answer) × (lent ≡ (lend_answer r lent).list)
   unfolding lend_answer
   words-short n e h = go r (words-counted n e)
     where
@@ -54,7 +54,7 @@ module _ (a : TraceRead) (r : Answer (List ℕ)) (lent : List ℕ) (counts : sho
       go (value ws) c = lend-short ws lent n (cc) h
       go (refused number place) c = clash (cc)
 
-  pub words-fit : (n : ℕ) → a ≡ traceRead.Words n → n ≤ length lent → value n ≡ (lend_answer r lent).answer
+  pub words-fit : (n : ℕ) → a ≡ trace_read.Words n → n ≤ length lent → value n ≡ (lend_answer r lent).answer
   unfolding lend_answer
   words-fit n e h = go r (words-counted n e)
     where

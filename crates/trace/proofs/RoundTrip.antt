@@ -13,7 +13,7 @@ use lib.Seq.{get_or_at, take-suc, length-take-le}
 use borrow.Author.Tests.{eqb-true, eqb-false, ne_eqb, le-ltb, ltb-false}
 use Rattle.trace.specs.Answer.{value}
 use Rattle.trace.specs.Whole.{Bytes}
-use Rattle.trace.specs.Record.{word, bit, byte, count, picked, recordOf, differs, changes, written, given_for, new_byte, merged, idle_at, idle, judged, read_record}
+use Rattle.trace.specs.Record.{word, bit, byte, count, picked, record_of, differs, changes, written, given_for, new_byte, merged, idle_at, idle, judged, read_record}
 use Rattle.trace.proofs.Bits.{bit-cases, count-mono}
 use Rattle.trace.proofs.Clash.{clash}
 use Rattle.trace.proofs.Digits.{digit-number, number_digits, number-ext}
@@ -81,7 +81,7 @@ module _ (before w : ℕ) (t : List ℕ) where
   enough = le-ltb (length given) (count 8 map) (rw (length-append, picked-length) (le-add_right (count 8 map) (length t)))
 
   pub read-written : w < 2 ^ 64 → read_record (written before w ++ t) before ≡ value (word w (length (written before w)))
-  unfolding read_record written recordOf map given
+  unfolding read_record written record_of map given
   read-written h =
       rw (enough, none-idle 8 (le_refl 8), merged-is h) (ap (λ (n : ℕ). value (word w n)) (one-add (count 8 map) ∙ ap suc (sym (picked-length 8 map w))))
 
@@ -117,7 +117,7 @@ module _ (before map : ℕ) (given : List ℕ) (bytes : Bytes given) (small : ma
       (sym (take-suc given (count i map) 0 (omega (arith, b, count-mono map (suc i) 8 h))))) (bit-cases i map)
 
   pub written-merged : written before (merged before map given) ≡ map ∷ take (count 8 map) given
-  unfolding written recordOf w
+  unfolding written record_of w
   written-merged = rw (changes-w, picked-w 8 (le_refl 8))
 
 pub judged-word : (t i : Bool) (w n w' n' : ℕ) → judged t i (word w n) ≡ value (word w' n') → (t ≡ false) × (i ≡ false) × (w ≡ w') × (n ≡ n')

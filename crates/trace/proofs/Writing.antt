@@ -11,7 +11,7 @@ use lib.ListN.{length, drop, set, length-append, length-replicate, length-set}
 use lib.Seq.{drop-set-lt}
 use lib.Pow.{pow_mono, shl_exact}
 use borrow.Author.Tests.{eq-eqb, ne_eqb}
-use Rattle.trace.specs.Record.{bit, byte, number, count, picked, recordOf, unlike, differs, changes, written}
+use Rattle.trace.specs.Record.{bit, byte, number, count, picked, record_of, unlike, differs, changes, written}
 use Rattle.trace.proofs.Bits.{bit-zero, count-le, count-mono}
 use Rattle.trace.proofs.Digits.{number_lt}
 use Rattle.trace.proofs.Lists.{set_next}
@@ -72,8 +72,8 @@ unfolding picked count
 picked-length zero map word = refl
 picked-length (suc i) map word = rw (length-append, length-replicate, picked-length i map word)
 
-pub record-length : (map word : ℕ) → length (recordOf map word) ≡ 1 + count 8 map
-unfolding recordOf
+pub record-length : (map word : ℕ) → length (record_of map word) ≡ 1 + count 8 map
+unfolding record_of
 record-length map word = rw (picked-length, one-add)
 
 -- `old` is the buffer with its map byte, `out` what it is after i bytes
@@ -115,8 +115,8 @@ module _ (map word : ℕ) (old out : List ℕ) (at i : ℕ) (m : Putting map wor
   }
 
 pub putting-done : (map word : ℕ) (l out : List ℕ) (at i : ℕ) → Putting map word (set l 0 map) out at i → 8 ≤ i
-    → out ≡ recordOf map word ++ drop (1 + count 8 map) l
-unfolding recordOf
+    → out ≡ record_of map word ++ drop (1 + count 8 map) l
+unfolding record_of
 putting-done map word l out at i m h =
     let e : i ≡ 8 = omega (arith, m.within) in
     let a : at ≡ suc (count 8 map) = rw e at m.passed in
@@ -133,7 +133,7 @@ put-fits before word map n e h = rw e (omega (arith, record-length (changes befo
 
 -- what the code has put is what is to be written
 pub write-put : (before word map n : ℕ) (lent out : List ℕ) → map ≡ changes before word → n ≡ count 8 map
-    → out ≡ recordOf map word ++ drop (1 + count 8 map) lent → out ≡ written before word ++ drop (1 + n) lent
+    → out ≡ record_of map word ++ drop (1 + count 8 map) lent → out ≡ written before word ++ drop (1 + n) lent
 unfolding written
 write-put before word map n lent out e c p = p ∙ rw (← e, c)
 

@@ -35,8 +35,8 @@ picked zero map word = []
 picked (suc i) map word = picked i map word ++ replicate (bit i map) (byte i word)
 
 -- R1: "A record is a map byte, followed by those bytes of a word whose bits stand in the map"
-unfoldable pub recordOf : ℕ → ℕ → List ℕ
-recordOf map word = map ∷ picked 8 map word
+unfoldable pub record_of : ℕ → ℕ → List ℕ
+record_of map word = map ∷ picked 8 map word
 
 -- ---- writing
 
@@ -54,7 +54,7 @@ changes before word = number 1 (differs before word) 8
 
 -- R11: the record of a word after the word before
 unfoldable pub written : ℕ → ℕ → List ℕ
-written before word = recordOf (changes before word) word
+written before word = record_of (changes before word) word
 
 -- ---- reading
 
@@ -89,7 +89,7 @@ pub data Item : Type 0 where
 
 -- X11: "A record is judged by 13 and then 14". R7: "Handed only the bytes from there on, it names place 0."
 abbrev pub judged : Bool → Bool → Item → Answer Item
-judged true anyIdle item = refused torn 0
+judged true any_idle item = refused torn 0
 judged false true item = refused idle_byte 0
 judged false false item = value item
 

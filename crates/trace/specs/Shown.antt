@@ -8,7 +8,7 @@ use Rattle.trace.specs.declared.Read.TheVariants as read
 use Rattle.trace.specs.declared.record.Merged.{Merged}
 use Rattle.trace.specs.declared.record.Merged.TheVariants as merged
 use Rattle.trace.specs.declared.TraceRead.{TraceRead}
-use Rattle.trace.specs.declared.TraceRead.TheVariants as traceRead
+use Rattle.trace.specs.declared.TraceRead.TheVariants as trace_read
 use Rattle.trace.specs.declared.Written.{Written}
 use Rattle.trace.specs.declared.Written.TheVariants as written
 
@@ -26,10 +26,10 @@ shown_written written.Short = refused short_bin 0
 
 -- R9 and R10: how many words there are, or a refusal
 abbrev pub shown_trace : TraceRead → Answer ℕ
-shown_trace (traceRead.Words n) = value n
-shown_trace (traceRead.Torn at) = refused torn at
-shown_trace (traceRead.Idle at) = refused idle_byte at
-shown_trace traceRead.Short = refused short_bin 0
+shown_trace (trace_read.Words n) = value n
+shown_trace (trace_read.Torn at) = refused torn at
+shown_trace (trace_read.Idle at) = refused idle_byte at
+shown_trace trace_read.Short = refused short_bin 0
 
 -- inside the reader, of a record of n bytes (R6)
 abbrev pub shown_merged : Merged → (n : ℕ) → Answer Item

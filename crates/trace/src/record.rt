@@ -1,7 +1,7 @@
 // One record: its bits and bytes, the reader and the writer.
 
 ghost use Rattle.std.specs.Prelude.{◌≡◌, ◌++◌, false, ℕ, ◌+◌, ◌*◌, ◌%◌, ◌^◌, ◌≤◌, ◌<◌, length, drop};
-ghost use Rattle.trace.specs.Record.{bit, byte, count, changes, recordOf, written, word, read_record, idle, merged, judged};
+ghost use Rattle.trace.specs.Record.{bit, byte, count, changes, record_of, written, word, read_record, idle, merged, judged};
 ghost use Rattle.trace.specs.Whole.{read_at, lend};
 ghost use Rattle.trace.specs.Shown.{shown_read, shown_written, shown_merged};
 
@@ -120,7 +120,7 @@ fn changes(before: u64, word: u64) -> u8
 // Writes the bytes of a word whose bit stands behind the map byte.
 fn put(map: u8, word: u64, out: &mut [u8])
     requires { count 8 map < length out.old }
-    ensures { out.new ≡ recordOf map word ++ drop (1 + count 8 map) out.old }
+    ensures { out.new ≡ record_of map word ++ drop (1 + count 8 map) out.old }
 {
     out[0] = map;
     let mut at: usize = 1;

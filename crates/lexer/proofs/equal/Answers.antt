@@ -14,12 +14,11 @@ pub returns-then-a-i : goal.returns-then-a-i
 returns-then-a-i c = same-stops _ _ _ c.loop-i.invariant.2 c.loop-i.invariant.1 c.loop-i-test.true c.if-a-i.true
 
 pub loop-i-preserved : goal.loop-i-preserved
-loop-i-preserved c =
-    (
-      search rules,
-      c.loop-i.invariant.1,
-      same-goes _ _ _ c.loop-i.invariant.2 c.loop-i.invariant.1 c.loop-i-test.true c.if-a-i.false,
-    )
+loop-i-preserved c = (
+  search rules,
+  c.loop-i.invariant.1,
+  same-goes _ _ _ c.loop-i.invariant.2 c.loop-i.invariant.1 c.loop-i-test.true c.if-a-i.false,
+)
 
 pub returns : goal.returns
 returns c = same_ends _ _ _ c.loop-i.invariant.2 c.loop-i.invariant.1 c.loop-i-test.false

@@ -7,27 +7,20 @@ use lib.ListN.{get_or}
 use Rattle.lexer.proofs.Signs.{sign-none, sign-single, sign-bound, sign_pair, sign-equals, sign-broken}
 use Rattle.lexer.proofs.sign_at.Goals as goal
 
--- the byte at the place is a byte
-byte : (c : goal.After-shared_slice_known-1) → get_or c.args.text.now c.args.place 0 < 256
-byte c = omega (arith, c.shared_slice_known-1.given c.args.place)
-
 pub returns-then-class-lt-SIGN : goal.returns-then-class-lt-SIGN
-returns-then-class-lt-SIGN c = c.knot_at.ensures _ ∙ sign-none _ _ c.requires.place_in_bounds (byte c) _ c.requires.class_value c.if-class-lt-SIGN.true
+returns-then-class-lt-SIGN c = c.knot_at.ensures _ ∙ sign-none _ _ c.requires.place_in_bounds (omega (arith, c.type_inv.text c.args.place)) _ c.requires.class_value c.if-class-lt-SIGN.true
 
 pub returns-then-sign-lt-DOUBLE_EQUALS : goal.returns-then-sign-lt-DOUBLE_EQUALS
-returns-then-sign-lt-DOUBLE_EQUALS c = sign-single _ _ c.requires.place_in_bounds (byte c) _ c.requires.class_value c.if-class-lt-SIGN.false c.if-sign-lt-DOUBLE_EQUALS.true
+returns-then-sign-lt-DOUBLE_EQUALS c = sign-single _ _ c.requires.place_in_bounds (omega (arith, c.type_inv.text c.args.place)) _ c.requires.class_value c.if-class-lt-SIGN.false c.if-sign-lt-DOUBLE_EQUALS.true
 
--- TODO no need: array-read-second
--- array-read-second : tie.Need-array-read-second
--- array-read-second c =
---     let a = c.before.before in
---     omega (arith, sign-bound a.before.args.text.now _ a.before.requires.0 (byte a) _ a.before.requires.1 c.if2.false)
+pub bounds-sign : goal.bounds-sign
+bounds-sign c = omega (arith, sign-bound c.args.text.now _ c.requires.place_in_bounds (omega (arith, c.type_inv.text c.args.place)) _ c.requires.class_value c.if-sign-lt-DOUBLE_EQUALS.false)
 
 pub returns-then-next_is : goal.returns-then-next_is
-returns-then-next_is c = sign_pair _ _ c.requires.place_in_bounds (byte c) _ c.requires.class_value c.if-sign-lt-DOUBLE_EQUALS.false (sym c.next_is.ensures ∙ c.if-next_is.true)
+returns-then-next_is c = sign_pair _ _ c.requires.place_in_bounds (omega (arith, c.type_inv.text c.args.place)) _ c.requires.class_value c.if-sign-lt-DOUBLE_EQUALS.false (sym c.next_is.ensures ∙ c.if-next_is.true)
 
 pub returns-then-sign-eq-DOUBLE_EQUALS : goal.returns-then-sign-eq-DOUBLE_EQUALS
-returns-then-sign-eq-DOUBLE_EQUALS c = sign-equals _ _ c.requires.place_in_bounds (byte c) _ c.requires.class_value c.if-sign-lt-DOUBLE_EQUALS.false (sym c.next_is.ensures ∙ c.if-next_is.false) c.if-sign-eq-DOUBLE_EQUALS.true
+returns-then-sign-eq-DOUBLE_EQUALS c = sign-equals _ _ c.requires.place_in_bounds (omega (arith, c.type_inv.text c.args.place)) _ c.requires.class_value c.if-sign-lt-DOUBLE_EQUALS.false (sym c.next_is.ensures ∙ c.if-next_is.false) c.if-sign-eq-DOUBLE_EQUALS.true
 
 pub returns : goal.returns
-returns c = c.knot_at-2.ensures _ ∙ sign-broken _ _ c.requires.place_in_bounds (byte c) _ c.requires.class_value c.if-sign-lt-DOUBLE_EQUALS.false (sym c.next_is.ensures ∙ c.if-next_is.false) c.if-sign-eq-DOUBLE_EQUALS.false
+returns c = c.knot_at-2.ensures _ ∙ sign-broken _ _ c.requires.place_in_bounds (omega (arith, c.type_inv.text c.args.place)) _ c.requires.class_value c.if-sign-lt-DOUBLE_EQUALS.false (sym c.next_is.ensures ∙ c.if-next_is.false) c.if-sign-eq-DOUBLE_EQUALS.false

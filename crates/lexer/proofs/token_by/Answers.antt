@@ -16,7 +16,7 @@ pub class_of-class-requires : goal.class_of-class-requires
 class_of-class-requires c = c.requires
 
 pub number_at-requires : goal.number_at-requires
-number_at-requires c = (c.requires, search rules)
+number_at-requires c = record { listed = c.requires; place_in_bounds = search rules }
 
 pub returns-then-class-eq-DIGIT : goal.returns-then-class-eq-DIGIT
 returns-then-class-eq-DIGIT c =
@@ -25,7 +25,7 @@ returns-then-class-eq-DIGIT c =
     ∙ token-first _ _ _ _ (white-ends _ _ _ c.run_end-place.ensures) c.if-text-place.false
 
 pub name_at-requires : goal.name_at-requires
-name_at-requires c = (c.requires, search rules)
+name_at-requires c = record { listed = c.requires; place_in_bounds = search rules }
 
 pub returns-then-class-eq-LETTER : goal.returns-then-class-eq-LETTER
 returns-then-class-eq-LETTER c =

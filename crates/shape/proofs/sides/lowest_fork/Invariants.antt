@@ -2,13 +2,13 @@
 -- Assumes nothing.
 use mathlib.Core.Path.{◌≡◌}
 use Prim.Native.Nat.{◌-◌}
-use Rattle.shape.specs.Sides.{forkAt}
+use Rattle.shape.specs.Sides.{fork_at}
 use Rattle.shape.specs.Walk.{kinds, lefts, rights}
 use Rattle.shape.specs.Lowest.{lowest}
 use Rattle.shape.proofs.sides.lowest_fork.Given as goal
 
 abbrev pub invariant-loop-i : goal.invariant-loop-i
-invariant-loop-i l = lowest (forkAt (kinds l.table) (lefts l.table) (rights l.table) l.look l.want l.row) l.i (l.end - l.i) ≡ lowest (forkAt (kinds l.table) (lefts l.table) (rights l.table) l.look l.want l.row) l.first (l.end - l.first)
+invariant-loop-i l = lowest (fork_at (kinds l.table) (lefts l.table) (rights l.table) l.look l.want l.row) l.i (l.end - l.i) ≡ lowest (fork_at (kinds l.table) (lefts l.table) (rights l.table) l.look l.want l.row) l.first (l.end - l.first)
 
 abbrev pub decreases-loop-i : goal.decreases-loop-i
 decreases-loop-i l = l.end - l.i
