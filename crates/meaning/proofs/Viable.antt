@@ -224,15 +224,15 @@ module _ (text : List ℕ) (number place : ℕ) where
   unfolding read_on
   refuses-in [] ps ns x h s e f = absurd h
   refuses-in (t ∷ ts) ps ns x h s e f =
-      by (step ns x t) refl (outcome ns t x)
+      by x (step ns x t) refl (outcome ns t x)
       (λ ms y g k. refuses-in ts (ps ++ (t ∷ [])) ms y (h g) (s ∙ sym (append_assoc ps (t ∷ []) ts)) (feed-on ps t no_names ns statement x e ∙ k)) f
     where
-      by : (r : Step) → step ns x t ≡ r → Outcome ns t x r
+      by : (z : Expect) (r : Step) → step ns x t ≡ r → Outcome ns t z r
           → ((ms : Names) (y : Expect) → goes_on t.token ≡ true → step ns x t ≡ go ms y → read_on ms y ts ≡ refused number (byte place) → Refusal text number place)
           → and_then r (λ ms y. read_on ms y ts) ≡ refused number (byte place) → Refusal text number place
-      by (go ms y) k (goes {u} g n) rest f = rest ms y (rw g (next-goes-on n)) k f
-      by (finished p) k o rest f = clash (cc)
-      by (fault m q) k o rest f = let a : fault m q ≡ fault number place = cc in refuses ps t ts ns x s e (k ∙ a)
+      by z (go ms y) k (goes {u} g n) rest f = rest ms y (rw g (next-goes-on n)) k f
+      by z (finished p) k o rest f = clash (cc)
+      by z (fault m q) k o rest f = let a : fault m q ≡ fault number place = cc in refuses ps t ts ns x s e (k ∙ a)
 
 -- A text that is not overlong is refused exactly so.
 pub refused-exactly : (text : List ℕ) (number place : ℕ) → length text ≤ 16384 → (read text ≡ refused number (byte place)) ↔ Refusal text number place
