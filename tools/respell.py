@@ -22,6 +22,14 @@ WORDED = {
     "new-store": "name_of_store", "new-define": "name_of_define", "new-production": "name_of_production", "of-production": "by_production",
     "an-input": "declares_input", "a-store": "declares_store", "a-define": "declares_define", "a-production": "declares_production",
 }
+# Names that are declared inside a module, a clause or a `where`, or as the name of a module that is brought in.
+WITHIN = (
+    "leaveM", "shiftAll", "shiftLetter", "askM", "noWire", "askRow", "leaveRow", "threadsIn", "stateFrom", "shiftPositions", "repliesFrom",
+    "forkAt", "walkAt", "recordOf", "leaveVisits", "verdictReply", "shiftEntered", "judgedMonitors", "traceRead", "endsOpen", "placeUnder",
+    "askVisits", "beforeThreads", "leaveTo-right", "enterOn-right", "goesOn-both", "goAll-shifted", "bothRuns", "roundRuns", "rowsIn-two",
+    "anyRun", "isOne", "sidesAt", "leftWord", "rightWord", "bodyWord", "writeMet-shifted", "eitherRuns", "lettersPlace", "writeMet-renumbered",
+    "branchRuns", "anyIdle",
+)
 LEMMAS = ("clean_line", "codes_all", "goes_on", "is_name", "met_at", "moved_by", "one_more", "past_the_end", "rows_in", "too_long", "too_many")
 
 
@@ -92,6 +100,8 @@ def main():
         new = WORDED.get(name) or new_name(name, kind)
         if new != name:
             renames[name] = new
+    for name in WITHIN:
+        renames.setdefault(name, new_name(name, "lemma"))
     for name, new in sorted(renames.items()):
         if new in kinds and new not in renames:
             print(f"falls together: {name} -> {new}")

@@ -13,7 +13,7 @@ loop-i-init c =
       from,
       below,
       λ x l s. has_all x l
-          ∙ sym (unmasked args.look.now args.want.now (c.masks_end-i.result + x) args.letter (omega (arith, c.word_at-arg-1.given.0, beyond (omega arith)))),
+          ∙ sym (unmasked args.look.now args.want.now (c.masks_end-i.result + x) args.letter (omega (arith, c.word_at-arg-1.given, beyond (omega arith)))),
     )
 
 pub offset_bounds-look-i : goal.offset_bounds-look-i

@@ -1,0 +1,28 @@
+-- `rules::open_large` meets its contract. It never comes to call itself, so 0 does as the measure.
+-- Assumes nothing.
+use Prim.Native.Nat.{ℕ, ◌<◌}
+use native.Mathlib.Omega.{arith}
+use borrow.Fn.Kinds.{In}
+use borrow.Fn.PlainCycle.{is, falls, and}
+use lib.ListN.{length-replicate}
+use Rattle.rules.proofs.+open_large.Goals as goal
+
+-- TODO
+abbrev at : ℕ → In 1 kinds.ps
+at t = and 1 kinds.ps (is 1 kinds.ps μ t) open-large.Pre
+
+-- TODO
+abbrev below : ℕ → In 1 kinds.ps
+below t = and 1 kinds.ps (falls 1 kinds.ps ◌<◌ μ t) open-large.Pre
+
+pub open_large-requires : goal.open_large-requires
+open_large-requires t c = absurd (omega arith)
+
+pub returns-then-text-gt16384 : goal.returns-then-text-gt16384
+returns-then-text-gt16384 t c = c.open_large.ensures
+
+pub open_in-requires : goal.open_in-requires
+open_in-requires t c = let e = length-replicate {A = ℕ} 49154 0 in (omega arith, omega (arith, e), omega (arith, e))
+
+pub returns : goal.returns
+returns t c = (c.open_in.ensures.0, c.open_in.ensures.1)

@@ -1,0 +1,4 @@
+use Rattle.shape.proofs.ends.+ends_at.Given as goal
+
+abbrev pub decreases-ends_at : goal.decreases-ends_at
+decreases-ends_at l = l.fuel

@@ -1,0 +1,4 @@
+use Rattle.shape.proofs.sides.+sides_at.Given as goal
+
+abbrev pub decreases-sides_at : goal.decreases-sides_at
+decreases-sides_at l = l.fuel
