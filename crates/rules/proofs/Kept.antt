@@ -70,7 +70,7 @@ module _ (P : List ℕ) (c : ℕ) (Q : List ℕ) (d : ℕ) (x : Extends P c Q d)
         node_kept k 5 n,
         moved part1 (λ z. z < k) k m i,
         same part2 k _ m e,
-        subst (λ z. CameNode Q d z ps ls ws) (sym (ap part1 (x.kept k m))) (came-kept _ ps ls ws r),
+        subst (λ z. CameNode Q d z ps ls ws) (sym (ap part1 (x.kept k m))) (came-kept (part1 (at P k)) ps ls ws r),
       )
 
   -- an operand of a node
@@ -82,14 +82,14 @@ module _ (P : List ℕ) (c : ℕ) (Q : List ℕ) (d : ℕ) (x : Extends P c Q d)
   denotes-kept k (letter y) n = came-kept k y.through y.literals y.writes n
   denotes-kept k (seq e f) (n, i, j, p, q) =
       let m = under k 1 n in
-      (node_kept k 1 n, moved part1 (λ z. z < k) k m i, moved part2 (λ z. z < k) k m j, operand part1 k e m (denotes-kept _ e p), operand part2 k f m (denotes-kept _ f q))
+      (node_kept k 1 n, moved part1 (λ z. z < k) k m i, moved part2 (λ z. z < k) k m j, operand part1 k e m (denotes-kept (part1 (at P k)) e p), operand part2 k f m (denotes-kept (part2 (at P k)) f q))
   denotes-kept k (alt e f) (n, i, j, p, q) =
       let m = under k 2 n in
-      (node_kept k 2 n, moved part1 (λ z. z < k) k m i, moved part2 (λ z. z < k) k m j, operand part1 k e m (denotes-kept _ e p), operand part2 k f m (denotes-kept _ f q))
-  denotes-kept k (star e) (n, i, p) = let m = under k 3 n in (node_kept k 3 n, moved part1 (λ z. z < k) k m i, operand part1 k e m (denotes-kept _ e p))
+      (node_kept k 2 n, moved part1 (λ z. z < k) k m i, moved part2 (λ z. z < k) k m j, operand part1 k e m (denotes-kept (part1 (at P k)) e p), operand part2 k f m (denotes-kept (part2 (at P k)) f q))
+  denotes-kept k (star e) (n, i, p) = let m = under k 3 n in (node_kept k 3 n, moved part1 (λ z. z < k) k m i, operand part1 k e m (denotes-kept (part1 (at P k)) e p))
   denotes-kept k (pipe e f) (n, i, j, p, q) =
       let m = under k 4 n in
-      (node_kept k 4 n, moved part1 (λ z. z < k) k m i, moved part2 (λ z. z < k) k m j, operand part1 k e m (denotes-kept _ e p), operand part2 k f m (denotes-kept _ f q))
+      (node_kept k 4 n, moved part1 (λ z. z < k) k m i, moved part2 (λ z. z < k) k m j, operand part1 k e m (denotes-kept (part1 (at P k)) e p), operand part2 k f m (denotes-kept (part2 (at P k)) f q))
 
   pub means-kept : (h : ℕ) (m : Meaning) → Means P c h m → Means Q d h m
   unfolding Means
@@ -153,5 +153,5 @@ module _ (P : List ℕ) (c : ℕ) (Q : List ℕ) (d : ℕ) (x : Extends P c Q d)
         record { inside = subst (λ w. part2 w + part3 w ≤ length text) (sym k) s.inside; bytes = ap (λ w. take (part3 w) (drop (part2 w) text)) k ∙ s.bytes },
         means-kept h e.meaning m,
         moved part1 (λ z. z < h) h l f,
-        subst (λ z. Cells text Q d z es) (sym (ap part1 k)) (cells-kept text _ es r),
+        subst (λ z. Cells text Q d z es) (sym (ap part1 k)) (cells-kept text (part1 (at P h)) es r),
       )

@@ -185,12 +185,12 @@ module _ (text : List ℕ) (at : ℕ) (t : Seen) (e : Sees text at t) where
   pub spelled : t.kind ≡ 18 → spelling_of (seen text t).token ≡ take (t.after - t.place) (drop t.place text)
   spelled q = ap (λ (u : Placed). spelling_of u.token) (name-is q)
 
-  pub is_word : (w : token.Word) → is_word w (seen text t).token ≡ eqb t.kind (word_kind w)
+  pub is_word_lem : (w : token.Word) → is_word w (seen text t).token ≡ eqb t.kind (word_kind w)
   unfolding seen
-  is_word w = word-token w t.kind _ t.value
+  is_word_lem w = word-token w t.kind _ t.value
 
   pub is-past : is_word token.past (seen text t).token ≡ eqb t.kind 24
-  is-past = is_word token.past
+  is-past = is_word_lem token.past
 
   pub no_name : (t.kind ≡ 18 → ⊥) → (next : List ℕ → Step) → on_name (seen text t) next ≡ fault t.fault t.place
   unfolding on_name seen
@@ -235,14 +235,14 @@ module _ (text : List ℕ) (at : ℕ) (t : Seen) (e : Sees text at t) where
   word-behind w q =
       fine refl (
         past text at t e (omega (arith, word-kind w)),
-        λ ns y. on_step text at t e ns (keyword w y) (go ns y) (yes _ _ _ (is_word text at t e w ∙ eq-eqb t.kind (word_kind w) q)),
+        λ ns y. on_step text at t e ns (keyword w y) (go ns y) (yes _ _ _ (is_word_lem text at t e w ∙ eq-eqb t.kind (word_kind w) q)),
       )
 
   pub word-not : (w : token.Word) → (t.kind ≡ word_kind w → ⊥) → Behind text at t.fault t.place (keyword w)
   unfolding Behind step
   word-not w q =
       faulted (faults text at t e) (λ ns y.
-      on_step text at t e ns (keyword w y) _ (no _ _ _ (is_word text at t e w ∙ ne_eqb t.kind (word_kind w) q) ∙ not-here text at t e))
+      on_step text at t e ns (keyword w y) _ (no _ _ _ (is_word_lem text at t e w ∙ ne_eqb t.kind (word_kind w) q) ∙ not-here text at t e))
 
   -- a token that is no number, and one that is too large
   pub no_number : (t.kind ≡ 19 → ⊥) → NoNumber (seen text t) t.fault

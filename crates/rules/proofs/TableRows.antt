@@ -6,7 +6,8 @@ use native.Mathlib.Omega.{arith}
 use Rattle.meaning.specs.Expression.{Exp, letter, seq, alt, star, pipe, size, rows, renumbered, Ordered}
 use Rattle.meaning.specs.Table.{Row, laid}
 use Rattle.meaning.proofs.Numbering.{renumbered-size, renumbered-rows}
-use Rattle.rules.specs.Cells.{Denotes}
+use Rattle.words.specs.Words.{part1, part2}
+use Rattle.rules.specs.Cells.{at, Denotes}
 use Rattle.rules.specs.Laying.{RowCode, row_code, row_codes, code_of, ExpAt}
 
 -- the rows of two operands
@@ -33,10 +34,10 @@ codes-laid r up l k n (pipe e f) q (o, u) =
 denotes-numbered : (P : List ℕ) (c n k : ℕ) (e : Exp) → Denotes P c n e → Denotes P c n (renumbered k e)
 unfolding Denotes renumbered
 denotes-numbered P c n k (letter x) d = d
-denotes-numbered P c n k (seq e f) (h, p, q, d, g) = (h, p, q, denotes-numbered P c _ k e d, denotes-numbered P c _ (k + size e) f g)
-denotes-numbered P c n k (alt e f) (h, p, q, d, g) = (h, p, q, denotes-numbered P c _ k e d, denotes-numbered P c _ (k + size e) f g)
-denotes-numbered P c n k (star e) (h, p, d) = (h, p, denotes-numbered P c _ k e d)
-denotes-numbered P c n k (pipe e f) (h, p, q, d, g) = (h, p, q, denotes-numbered P c _ k e d, denotes-numbered P c _ (k + size e) f g)
+denotes-numbered P c n k (seq e f) (h, p, q, d, g) = (h, p, q, denotes-numbered P c (part1 (at P n)) k e d, denotes-numbered P c (part2 (at P n)) (k + size e) f g)
+denotes-numbered P c n k (alt e f) (h, p, q, d, g) = (h, p, q, denotes-numbered P c (part1 (at P n)) k e d, denotes-numbered P c (part2 (at P n)) (k + size e) f g)
+denotes-numbered P c n k (star e) (h, p, d) = (h, p, denotes-numbered P c (part1 (at P n)) k e d)
+denotes-numbered P c n k (pipe e f) (h, p, q, d, g) = (h, p, q, denotes-numbered P c (part1 (at P n)) k e d, denotes-numbered P c (part2 (at P n)) (k + size e) f g)
 
 pub numbered-at : (P : List ℕ) (c n row index k : ℕ) (e : Exp) → ExpAt P c n row index e → ExpAt P c n row index (renumbered k e)
 numbered-at P c n row index k e s = record {

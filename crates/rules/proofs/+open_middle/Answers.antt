@@ -1,19 +1,9 @@
 -- `rules::open_middle` meets its contract. It never comes to call itself, so 0 does as the measure.
 -- Assumes nothing.
-use Prim.Native.Nat.{ℕ, ◌<◌}
 use native.Mathlib.Omega.{arith}
-use borrow.Fn.Kinds.{In}
-use borrow.Fn.PlainCycle.{is, falls, and}
+use Prim.Native.Nat.{ℕ}
 use lib.ListN.{length-replicate}
 use Rattle.rules.proofs.+open_middle.Goals as goal
-
--- TODO
-abbrev at : ℕ → In 1 kinds.ps
-at t = and 1 kinds.ps (is 1 kinds.ps μ t) open-middle.Pre
-
--- TODO
-abbrev below : ℕ → In 1 kinds.ps
-below t = and 1 kinds.ps (falls 1 kinds.ps ◌<◌ μ t) open-middle.Pre
 
 pub open_middle-requires : goal.open_middle-requires
 open_middle-requires t c = absurd (omega arith)

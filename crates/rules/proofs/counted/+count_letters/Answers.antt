@@ -6,31 +6,31 @@ use Rattle.rules.proofs.Counting.{letters-inside, letters-room, one-letter, lett
 use Rattle.rules.proofs.counted.+count_letters.Goals as goal
 
 pub offset_bounds-words-node : goal.offset_bounds-words-node
-offset_bounds-words-node t c = let l = letters-inside _ _ _ c.requires.1.0 in omega arith
+offset_bounds-words-node t c = let l = letters-inside _ _ _ c.requires.0 in omega arith
 
 pub bounds-words-node : goal.bounds-words-node
-bounds-words-node t c = letters-inside _ _ _ c.requires.1.0
+bounds-words-node t c = letters-inside _ _ _ c.requires.0
 
 pub mask_of-requires : goal.mask_of-requires
-mask_of-requires t c = λ _. (one-letter _ c.args.kept.now _ _ _ c.part0-k.ensures (sym c.is_letter.ensures ∙ c.if-is_letter.true) c.requires.1.0, c.requires.1.1, c.requires.1.2)
+mask_of-requires t c = (one-letter _ c.args.kept.now _ _ _ c.part0-k.ensures (sym c.is_letter.ensures ∙ c.if-is_letter.true) c.requires.0, c.requires.1, c.requires.2)
 
 pub bounds-counted-letter : goal.bounds-counted-letter
-bounds-counted-letter t c = letters-room _ _ _ c.requires.1.0
+bounds-counted-letter t c = letters-room _ _ _ c.requires.0
 
 pub overflow_add-result : goal.overflow_add-result
-overflow_add-result t c = let l = letters-room _ _ _ c.requires.1.0 in omega arith
+overflow_add-result t c = let l = letters-room _ _ _ c.requires.0 in omega arith
 
 pub returns-then-is_letter : goal.returns-then-is_letter
 returns-then-is_letter t c = letter-counts _ _ _ _ _ c.part0-k.ensures (sym c.is_letter.ensures ∙ c.if-is_letter.true) _ c.mask_of.ensures _
 
 pub count_letters-next-requires : goal.count_letters-next-requires
-count_letters-next-requires t c = λ _. let (l, x) = first-letters _ c.args.kept.now _ _ _ _ c.part0-k.ensures c.part1.ensures (sym c.is_letter.ensures ∙ c.if-is_letter.false) c.requires.1.0 in (omega (arith, c.requires.0), (x, c.requires.1.1, c.requires.1.2))
+count_letters-next-requires t c = let (l, x) = first-letters _ c.args.kept.now _ _ _ _ c.part0-k.ensures c.part1.ensures (sym c.is_letter.ensures ∙ c.if-is_letter.false) c.requires.0 in (omega (arith, c.decreases), (x, c.requires.1, c.requires.2))
 
 pub returns-then-k-eq-STAR : goal.returns-then-k-eq-STAR
 returns-then-k-eq-STAR t c = star-counts _ _ _ _ _ _ c.part0-k.ensures c.part1.ensures c.if-k-eq-STAR.true _ _ _ c.count_letters-next.ensures
 
 pub count_letters-requires : goal.count_letters-requires
-count_letters-requires t c = λ _. let (l, x) = second-letters _ _ _ _ _ _ _ c.part0-k.ensures c.part1.ensures c.part2.ensures (sym c.is_letter.ensures ∙ c.if-is_letter.false) c.if-k-eq-STAR.false _ _ _ c.count_letters-next.ensures c.requires.1.0 in (omega (arith, c.requires.0), (x, c.requires.1.1, c.requires.1.2))
+count_letters-requires t c = let (l, x) = second-letters _ _ _ _ _ _ _ c.part0-k.ensures c.part1.ensures c.part2.ensures (sym c.is_letter.ensures ∙ c.if-is_letter.false) c.if-k-eq-STAR.false _ _ _ c.count_letters-next.ensures c.requires.0 in (omega (arith, c.decreases), (x, c.requires.1, c.requires.2))
 
 pub returns : goal.returns
 returns t c = two-counts _ _ _ _ _ _ _ c.part0-k.ensures c.part1.ensures c.part2.ensures (sym c.is_letter.ensures ∙ c.if-is_letter.false) c.if-k-eq-STAR.false _ _ _ c.count_letters-next.ensures _ _ c.count_letters.ensures

@@ -2,73 +2,63 @@
 -- Assumes nothing.
 use native.Mathlib.Omega.{arith}
 use borrow.Author.Tests.{not-true, not-false}
-use Prim.Native.Nat.{◌-◌}
-use lib.ListN.{length}
 use Rattle.rules.proofs.Stepping.{since, inside-text}
 use Rattle.rules.proofs.Expressing.{named-on, operand-simple, operand-deep, inner-given, operand-fails, operand-closed, Loop, loop-start, operand-given, whole-fails, star-given, turn-given, loop-long, loop-on, whole-ends}
 use Rattle.rules.proofs.expression.+expression_operand.Goals as goal
 
--- TODO
-abbrev expression-Inv-loop : expression-lts.invariant-loop
-expression-Inv-loop text words₀ last free at levels level₀ pos₀ used₀ words level pos used = Loop text words₀ at free last levels words level pos used
-
--- TODO
-abbrev expression-μ-loop : expression-lts.decreases-loop
-expression-μ-loop text words₀ last free at levels level₀ pos₀ used₀ words level pos used = length text - pos
-
 pub expression-loop-level-init : goal.expression-loop-level-init
-expression-loop-level-init t c = loop-start _ _ _ _ _ _ c.requires.1.0 _ c.no_level-level.ensures
+expression-loop-level-init t c = loop-start _ _ _ _ _ _ c.requires.0 _ c.no_level-level.ensures
 
 pub expression-operand-p-requires : goal.expression-operand-p-requires
-expression-operand-p-requires t c = (omega (arith, c.requires.0), (operand-given _ _ _ _ _ _ c.requires.1.0 _ _ _ _ c.loop-level.invariant, c.requires.1.1))
+expression-operand-p-requires t c = (omega (arith, c.decreases), (operand-given _ _ _ _ _ _ c.requires.0 _ _ _ _ c.loop-level.invariant, c.requires.1))
 
 pub expression-shape_of-words-then-p-ne0 : goal.expression-shape_of-words-then-p-ne0
-expression-shape_of-words-then-p-ne0 t c = (whole-fails _ _ _ _ _ _ c.requires.1.0 _ _ _ _ c.loop-level.invariant _ _ c.operand-p.ensures c.if-p-ne0.true).task.long
+expression-shape_of-words-then-p-ne0 t c = (whole-fails _ _ _ _ _ _ c.requires.0 _ _ _ _ c.loop-level.invariant _ _ c.operand-p.ensures c.if-p-ne0.true).task.long
 
 pub expression-returns-then-p-ne0 : goal.expression-returns-then-p-ne0
-expression-returns-then-p-ne0 t c = whole-fails _ _ _ _ _ _ c.requires.1.0 _ _ _ _ c.loop-level.invariant _ _ c.operand-p.ensures c.if-p-ne0.true
+expression-returns-then-p-ne0 t c = whole-fails _ _ _ _ _ _ c.requires.0 _ _ _ _ c.loop-level.invariant _ _ c.operand-p.ensures c.if-p-ne0.true
 
 pub expression-with_star-s-requires : goal.expression-with_star-s-requires
-expression-with_star-s-requires t c = star-given _ _ _ _ _ _ c.requires.1.0 _ _ _ _ c.loop-level.invariant _ _ c.operand-p.ensures c.if-p-ne0.false
+expression-with_star-s-requires t c = star-given _ _ _ _ _ _ c.requires.0 _ _ _ _ c.loop-level.invariant _ _ c.operand-p.ensures c.if-p-ne0.false
 
 pub expression-behind_operand-n-requires : goal.expression-behind_operand-n-requires
-expression-behind_operand-n-requires t c = turn-given _ _ _ _ _ _ c.requires.1.0 _ _ _ _ c.loop-level.invariant _ _ c.operand-p.ensures c.if-p-ne0.false _ _ c.with_star-s.ensures
+expression-behind_operand-n-requires t c = turn-given _ _ _ _ _ _ c.requires.0 _ _ _ _ c.loop-level.invariant _ _ c.operand-p.ensures c.if-p-ne0.false _ _ c.with_star-s.ensures
 
 pub expression-shape_of-words-then-not-n : goal.expression-shape_of-words-then-not-n
-expression-shape_of-words-then-not-n t c = loop-long _ _ _ _ _ _ c.requires.1.0 _ _ _ _ c.loop-level.invariant _ _ c.operand-p.ensures c.if-p-ne0.false _ _ c.with_star-s.ensures _ _ c.behind_operand-n.ensures
+expression-shape_of-words-then-not-n t c = loop-long _ _ _ _ _ _ c.requires.0 _ _ _ _ c.loop-level.invariant _ _ c.operand-p.ensures c.if-p-ne0.false _ _ c.with_star-s.ensures _ _ c.behind_operand-n.ensures
 
 pub expression-returns-then-not-n : goal.expression-returns-then-not-n
-expression-returns-then-not-n t c = whole-ends _ _ _ _ _ _ c.requires.1.0 _ _ _ _ c.loop-level.invariant _ _ c.operand-p.ensures c.if-p-ne0.false _ _ c.with_star-s.ensures _ _ c.behind_operand-n.ensures (not-true _ c.if-not-n.true)
+expression-returns-then-not-n t c = whole-ends _ _ _ _ _ _ c.requires.0 _ _ _ _ c.loop-level.invariant _ _ c.operand-p.ensures c.if-p-ne0.false _ _ c.with_star-s.ensures _ _ c.behind_operand-n.ensures (not-true _ c.if-not-n.true)
 
 pub expression-loop-level-smaller : goal.expression-loop-level-smaller
-expression-loop-level-smaller t c = let (l, m, n) = loop-on _ _ _ _ _ _ c.requires.1.0 _ _ _ _ c.loop-level.invariant _ _ c.operand-p.ensures c.if-p-ne0.false _ _ c.with_star-s.ensures _ _ c.behind_operand-n.ensures (not-false _ c.if-not-n.false) in omega arith
+expression-loop-level-smaller t c = let (l, m, n) = loop-on _ _ _ _ _ _ c.requires.0 _ _ _ _ c.loop-level.invariant _ _ c.operand-p.ensures c.if-p-ne0.false _ _ c.with_star-s.ensures _ _ c.behind_operand-n.ensures (not-false _ c.if-not-n.false) in omega arith
 
 pub expression-loop-level-preserved : goal.expression-loop-level-preserved
-expression-loop-level-preserved t c = (loop-on _ _ _ _ _ _ c.requires.1.0 _ _ _ _ c.loop-level.invariant _ _ c.operand-p.ensures c.if-p-ne0.false _ _ c.with_star-s.ensures _ _ c.behind_operand-n.ensures (not-false _ c.if-not-n.false)).0
+expression-loop-level-preserved t c = (loop-on _ _ _ _ _ _ c.requires.0 _ _ _ _ c.loop-level.invariant _ _ c.operand-p.ensures c.if-p-ne0.false _ _ c.with_star-s.ensures _ _ c.behind_operand-n.ensures (not-false _ c.if-not-n.false)).0
 
 pub operand-simple_operand-requires : goal.operand-simple_operand-requires
-operand-simple_operand-requires t c = (named-on c.requires.1.0 (since _ _ _ c.see-t.ensures c.requires.1.0.room.inside) (let p = inside-text _ _ _ c.see-t.ensures in omega arith), (_, c.see-t.ensures), c.if-t-ne-LEFT_PAREN.true)
+operand-simple_operand-requires t c = (named-on c.requires.0 (since _ _ _ c.see-t.ensures c.requires.0.room.inside) (let p = inside-text _ _ _ c.see-t.ensures in omega arith), (_, c.see-t.ensures), c.if-t-ne-LEFT_PAREN.true)
 
 pub operand-shape_of-words-then-t-ne-LEFT_PAREN : goal.operand-shape_of-words-then-t-ne-LEFT_PAREN
 operand-shape_of-words-then-t-ne-LEFT_PAREN t c = c.simple_operand.ensures.0.long
 
 pub operand-returns-then-t-ne-LEFT_PAREN : goal.operand-returns-then-t-ne-LEFT_PAREN
-operand-returns-then-t-ne-LEFT_PAREN t c = operand-simple _ _ _ _ _ _ _ c.see-t.ensures c.requires.1.0 _ _ c.simple_operand.ensures
+operand-returns-then-t-ne-LEFT_PAREN t c = operand-simple _ _ _ _ _ _ _ c.see-t.ensures c.requires.0 _ _ c.simple_operand.ensures
 
 pub operand-returns-then-levels-eq0 : goal.operand-returns-then-levels-eq0
-operand-returns-then-levels-eq0 t c = operand-deep _ _ _ _ _ _ _ c.see-t.ensures c.requires.1.0 c.if-t-ne-LEFT_PAREN.false c.if-levels-eq0.true _
+operand-returns-then-levels-eq0 t c = operand-deep _ _ _ _ _ _ _ c.see-t.ensures c.requires.0 c.if-t-ne-LEFT_PAREN.false c.if-levels-eq0.true _
 
 pub operand-expression-e-requires : goal.operand-expression-e-requires
-operand-expression-e-requires t c = (omega (arith, c.requires.0), (inner-given _ _ _ _ _ _ _ c.see-t.ensures c.requires.1.0 c.if-t-ne-LEFT_PAREN.false c.if-levels-eq0.false, omega arith))
+operand-expression-e-requires t c = (omega (arith, c.decreases), (inner-given _ _ _ _ _ _ _ c.see-t.ensures c.requires.0 c.if-t-ne-LEFT_PAREN.false c.if-levels-eq0.false, omega arith))
 
 pub operand-shape_of-words-then-e-ne0 : goal.operand-shape_of-words-then-e-ne0
 operand-shape_of-words-then-e-ne0 t c = c.expression-e.ensures.task.long
 
 pub operand-returns-then-e-ne0 : goal.operand-returns-then-e-ne0
-operand-returns-then-e-ne0 t c = operand-fails _ _ _ _ _ _ _ c.see-t.ensures c.requires.1.0 c.if-t-ne-LEFT_PAREN.false c.if-levels-eq0.false _ _ c.expression-e.ensures c.if-e-ne0.true
+operand-returns-then-e-ne0 t c = operand-fails _ _ _ _ _ _ _ c.see-t.ensures c.requires.0 c.if-t-ne-LEFT_PAREN.false c.if-levels-eq0.false _ _ c.expression-e.ensures c.if-e-ne0.true
 
 pub operand-shape_of-words : goal.operand-shape_of-words
 operand-shape_of-words t c = c.expression-e.ensures.task.long
 
 pub operand-returns : goal.operand-returns
-operand-returns t c = operand-closed _ _ _ _ _ _ _ c.see-t.ensures c.requires.1.0 c.if-t-ne-LEFT_PAREN.false c.if-levels-eq0.false _ _ c.expression-e.ensures c.if-e-ne0.false _ c.closed.ensures
+operand-returns t c = operand-closed _ _ _ _ _ _ _ c.see-t.ensures c.requires.0 c.if-t-ne-LEFT_PAREN.false c.if-levels-eq0.false _ _ c.expression-e.ensures c.if-e-ne0.false _ c.closed.ensures

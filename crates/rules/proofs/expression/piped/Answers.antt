@@ -7,7 +7,7 @@ use Rattle.rules.proofs.Operating.{joined-left}
 use Rattle.rules.proofs.expression.piped.Goals as goal
 
 pub join-requires : goal.join-requires
-join-requires c = (omega arith, c.requires.1, inr (inr refl), (c.requires.2.0.false, c.requires.2.1.false), c.requires.3)
+join-requires c = (omega arith, c.requires.1, inr (inr refl), (c.requires.2.0.left, c.requires.2.1.left), c.requires.3)
 
 pub returns : goal.returns
 returns c = joined-left _ _ _ _ _ _ _ c.join.ensures

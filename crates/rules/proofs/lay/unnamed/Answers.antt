@@ -4,12 +4,8 @@ use mathlib.Core.Bool.{Bool, true}
 use mathlib.Core.List.{List}
 use Prim.Native.Nat.{ℕ}
 use Rattle.rules.proofs.Placing.{below-start, below-inside, below-falls, below_next, below_end}
+use Rattle.rules.proofs.lay.unnamed.Invariants.{all}
 use Rattle.rules.proofs.lay.unnamed.Goals as goal
-
--- TODO
--- every list of productions
-abbrev all : List ℕ → Bool
-all ps = true
 
 pub loop-at-init : goal.loop-at-init
 loop-at-init c = below-start all _ _

@@ -34,8 +34,7 @@ write_value-requires c =
     (writing-on c.requires.0 (omega arith) p.1, omega arith, rw c.part0.ensures b, rw c.part1.ensures d)
 
 pub returns : goal.returns
-returns c =
-    (
+returns c = (
   one_written _ _ _ _ _ _ c.requires.1.1 _ _ _ _ c.find_kind-s.ensures c.requires.0 c.if-s-ne0.false (omega arith) _ _ c.sign-arrow.ensures c.if-arrow-ne0.false _ _ c.part0.ensures c.part1.ensures _ _ _ _ _ _ c.write_value.ensures,
   λ z. let p = one-past _ _ _ _ _ _ c.requires.1.1 _ _ _ _ c.find_kind-s.ensures c.requires.0 c.if-s-ne0.false (omega arith) _ _ c.sign-arrow.ensures c.if-arrow-ne0.false in let s = (well c.write_value.ensures.outcome z).spent in omega (arith, s.since),
 )

@@ -1,0 +1,16 @@
+use Prim.Native.Nat.{◌*◌, ◌+◌, ◌-◌}
+use lib.ListN.{length}
+use Rattle.rules.proofs.Expressing.{Loop}
+use Rattle.rules.proofs.expression.+expression_operand.Given as goal
+
+abbrev pub decreases-expression : goal.decreases-expression
+decreases-expression l = 2 * l.levels + 1
+
+abbrev pub decreases-operand : goal.decreases-operand
+decreases-operand l = 2 * l.levels
+
+abbrev pub invariant-expression-loop-level : goal.invariant-expression-loop-level
+invariant-expression-loop-level l = Loop l.text l.initial.words l.at l.free l.last l.levels l.words l.level l.pos l.used
+
+abbrev pub decreases-expression-loop-level : goal.decreases-expression-loop-level
+decreases-expression-loop-level l = length l.text - l.pos

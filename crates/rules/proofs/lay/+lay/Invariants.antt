@@ -1,0 +1,4 @@
+use Rattle.rules.proofs.lay.+lay.Given as goal
+
+abbrev pub decreases-lay : goal.decreases-lay
+decreases-lay l = l.node
