@@ -28,7 +28,7 @@ WITHIN = (
     "forkAt", "walkAt", "recordOf", "leaveVisits", "verdictReply", "shiftEntered", "judgedMonitors", "traceRead", "endsOpen", "placeUnder",
     "askVisits", "beforeThreads", "leaveTo-right", "enterOn-right", "goesOn-both", "goAll-shifted", "bothRuns", "roundRuns", "rowsIn-two",
     "anyRun", "isOne", "sidesAt", "leftWord", "rightWord", "bodyWord", "writeMet-shifted", "eitherRuns", "lettersPlace", "writeMet-renumbered",
-    "branchRuns", "anyIdle",
+    "branchRuns", "anyIdle", "is-star",
 )
 LEMMAS = ("clean_line", "codes_all", "goes_on", "is_name", "met_at", "moved_by", "one_more", "past_the_end", "rows_in", "too_long", "too_many")
 

@@ -9,7 +9,7 @@ use native.Mathlib.Omega.{arith}
 use lib.Dec.{eqb, eqb→eq, eqb_refl}
 use Rattle.meaning.specs.Fit.{Tick}
 use Rattle.meaning.specs.Positions.{joined, Entered, passed, blocked, then_enter, or_enter, or_pass, goes_by}
-use Rattle.meaning.specs.Table.{Under, Kind, is_letter, is_seq, is_alt, is-star, is_pipe, Table}
+use Rattle.meaning.specs.Table.{Under, Kind, is_letter, is_seq, is_alt, is_star, is_pipe, Table}
 use Rattle.meaning.specs.RowWalk.{enter_by, leave_by, enter_row, ask_row, leave_row}
 use Rattle.meaning.proofs.ListLaws.{is_true, is_false}
 use Rattle.meaning.proofs.Entering.{goes-by-only}
@@ -21,7 +21,7 @@ abbrev pub EntersBy : Kind → (a b : Type 0) → Type 0
 EntersBy (is_letter l) a b = Unit {0}
 EntersBy is_seq a b = a × b
 EntersBy is_alt a b = a × b
-EntersBy is-star a b = a
+EntersBy is_star a b = a
 EntersBy is_pipe a b = a
 
 -- the calls of `leave_by`
@@ -29,7 +29,7 @@ abbrev pub LeavesBy : Kind → (on-left : Bool) → (b c d : Type 0) → Type 0
 LeavesBy (is_letter l) on-left b c d = Unit {0}
 LeavesBy is_seq on-left b c d = cond on-left b c
 LeavesBy is_alt on-left b c d = c
-LeavesBy is-star on-left b c d = d
+LeavesBy is_star on-left b c d = d
 LeavesBy is_pipe on-left b c d = cond on-left (c × b) (Unit {0})
 
 -- entering row r: n calls deep is enough
@@ -55,14 +55,14 @@ enters-mono : (k : Kind) {a b a' b' : Type 0} → (a → a') → (b → b') → 
 enters-mono (is_letter l) f g e = tt
 enters-mono is_seq f g e = (f e.0, g e.1)
 enters-mono is_alt f g e = (f e.0, g e.1)
-enters-mono is-star f g e = f e
+enters-mono is_star f g e = f e
 enters-mono is_pipe f g e = f e
 
 enters-same : (k : Kind) (t : Tick) {a b : Type 0} {x y x' y' : Entered} → (a → x ≡ x') → (b → y ≡ y') → EntersBy k a b → enter_by k t x y ≡ enter_by k t x' y'
 enters-same (is_letter l) t f g e = refl
 enters-same is_seq t f g e = ap₂ then_enter (f e.0) (g e.1)
 enters-same is_alt t f g e = ap₂ or_enter (f e.0) (g e.1)
-enters-same is-star t f g e = ap or_pass (f e)
+enters-same is_star t f g e = ap or_pass (f e)
 enters-same is_pipe t f g e = f e
 
 -- how a row is left counts only where entering it passes
@@ -74,7 +74,7 @@ leaves-mono (is_letter l) o f g h e = tt
 leaves-mono is_seq true f g h e = f e
 leaves-mono is_seq false f g h e = g e
 leaves-mono is_alt o f g h e = g e
-leaves-mono is-star o f g h e = h e
+leaves-mono is_star o f g h e = h e
 leaves-mono is_pipe true f g h e = (g e.0, f e.1)
 leaves-mono is_pipe false f g h e = tt
 
@@ -84,7 +84,7 @@ leaves-same (is_letter l) o f g h e = refl
 leaves-same is_seq true f g h e = f e
 leaves-same is_seq false f g h e = g e
 leaves-same is_alt o f g h e = g e
-leaves-same is-star o f g h e = h e
+leaves-same is_star o f g h e = h e
 leaves-same is_pipe true f g h e = ap₂ joined (g e.0) (f e.1)
 leaves-same is_pipe false f g h e = refl
 

@@ -12,7 +12,7 @@ use Rattle.meaning.specs.Expression.{rows, Letter, Exp, letter, seq, alt, star, 
 use Rattle.meaning.specs.Shape.{nullable}
 use Rattle.meaning.specs.Fit.{Tick}
 use Rattle.meaning.specs.Positions.{Way, stuck, over, joined, Entered, met, passed, blocked, then_enter, or_enter, or_pass, enter, goes_by, ask, busy, begin, leave, on, at_start, go, go_all}
-use Rattle.meaning.specs.Table.{Under, Holds, Kind, is_letter, is_seq, is_alt, is-star, is_pipe, Table}
+use Rattle.meaning.specs.Table.{Under, Holds, Kind, is_letter, is_seq, is_alt, is_star, is_pipe, Table}
 use Rattle.meaning.specs.RowWalk.{enter_by, leave_by, enter_row, ask_row, leave_row}
 use Rattle.meaning.proofs.ListLaws.{here, there, append-∈, one-∈, is_true, is_false, clash}
 use Rattle.meaning.proofs.Step.{Solid}
@@ -101,8 +101,8 @@ module _ (shut : ℕ → Bool) (R : Table) (only : ThreadsShut shut R) (place : 
     alt-either : (c : ℕ) (K : Way) (F : ℕ) → (R r).kind ≡ is_alt → Under R r c → Leaves r K F → Leaves c K (suc F)
     alt-either c K F k u l = leaves-from r is_alt k K c u (eqb c (R r).left) refl F l
 
-    star-body : (K : Way) (F : ℕ) → (R r).kind ≡ is-star → Under R r (R r).left → Asks r K F → Leaves (R r).left K (suc F)
-    star-body K F k u a = leaves-from r is-star k K (R r).left u true (is-left r) F a
+    star-body : (K : Way) (F : ℕ) → (R r).kind ≡ is_star → Under R r (R r).left → Asks r K F → Leaves (R r).left K (suc F)
+    star-body K F k u a = leaves-from r is_star k K (R r).left u true (is-left r) F a
 
     pipe-left : (K L : Way) (F G : ℕ) → (R r).kind ≡ is_pipe → Under R r (R r).left → G ≤ F → Leaves r K F → Asks (R r).right L G
         → Leaves (R r).left (λ t. joined (K t) (L t)) (suc F)
@@ -141,7 +141,7 @@ module _ (shut : ℕ → Bool) (R : Table) (only : ThreadsShut shut R) (place : 
       let (a, p) = enter-right e (R r).left h.3 n (omega arith) in
       let (b, q) = enter-right f (R r).right h.4 n (omega arith) in
       ((a, b), λ t. ap₂ or_enter (opened (R r).left (left_open r h.1) (p t)) (opened (R r).right (right-open r is_alt h.0 (λ z. clash (cc z)) h.2) (q t))))
-  enter-right (star e) r h = enters-from r is-star h.0 (star e) (λ n le.
+  enter-right (star e) r h = enters-from r is_star h.0 (star e) (λ n le.
       let (a, p) = enter-right e (R r).left h.2 n (omega arith) in
       (a, λ t. ap or_pass (opened (R r).left (left_open r h.1) (p t))))
   enter-right (pipe e f) r h = enters-from r is_pipe h.0 (pipe e f) (λ n le.

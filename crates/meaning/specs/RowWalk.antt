@@ -3,14 +3,14 @@ use Rattle.std.specs.Prelude.{Bool, cond, List, [], ℕ, zero, suc, eqb}
 use Rattle.std.proofs.Math.Option.{Option, none, some}
 use Rattle.meaning.specs.Fit.{Tick, meets}
 use Rattle.meaning.specs.Positions.{Way, joined, Entered, met, blocked, then_enter, or_enter, or_pass, goes_by}
-use Rattle.meaning.specs.Table.{Kind, is_letter, is_seq, is_alt, is-star, is_pipe, Table}
+use Rattle.meaning.specs.Table.{Kind, is_letter, is_seq, is_alt, is_star, is_pipe, Table}
 
 -- a row is entered; a, b: entering its left operand, entering its right one
 abbrev pub enter_by : Kind → Tick → (a b : Entered) → Entered
 enter_by (is_letter l) t a b = cond (meets l t) (met l.number) blocked
 enter_by is_seq t a b = then_enter a b
 enter_by is_alt t a b = or_enter a b
-enter_by is-star t a b = or_pass a
+enter_by is_star t a b = or_pass a
 enter_by is_pipe t a b = a
 
 -- an operand of a row is left (on-left: the left one); b, c, d: asking the row's right operand, leaving the row, asking the row
@@ -18,7 +18,7 @@ abbrev pub leave_by : Kind → (on-left : Bool) → (b c d : Option (List ℕ)) 
 leave_by (is_letter l) on-left b c d = none
 leave_by is_seq on-left b c d = cond on-left b c
 leave_by is_alt on-left b c d = c
-leave_by is-star on-left b c d = d
+leave_by is_star on-left b c d = d
 leave_by is_pipe on-left b c d = cond on-left (joined c b) (some [])
 
 -- n bounds the calls; shut tells the rows of busy threads (F17), which cannot be entered

@@ -5,7 +5,7 @@ use Rattle.meaning.specs.Expression.{Letter, Exp, letter, seq, alt, star, pipe, 
 -- S3: "each letter and each operator (`,` `||` `*` `@`)"
 pub data Kind : Type 0 where
   is_letter : Letter → Kind
-  is_seq is_alt is-star is_pipe : Kind
+  is_seq is_alt is_star is_pipe : Kind
 
 -- S3: "The table has a row for each letter and each operator". A row has its operands' rows, and the row that it is an operand of.
 pub record Row : Type 0 where
@@ -29,7 +29,7 @@ Holds R place r (seq e f) =
     × Holds R place (R r).left e × Holds R place (R r).right f
 Holds R place r (alt e f) =
     ((R r).kind ≡ is_alt) × Under R r (R r).left × Under R r (R r).right × Holds R place (R r).left e × Holds R place (R r).right f
-Holds R place r (star e) = ((R r).kind ≡ is-star) × Under R r (R r).left × Holds R place (R r).left e
+Holds R place r (star e) = ((R r).kind ≡ is_star) × Under R r (R r).left × Holds R place (R r).left e
 Holds R place r (pipe e f) =
     ((R r).kind ≡ is_pipe) × Under R r (R r).left × Under R r (R r).right × ((R r).right ≡ (R r).left → ⊥)
     × Holds R place (R r).left e × Holds R place (R r).right f
@@ -44,7 +44,7 @@ unfoldable pub laid : (r up : ℕ) → Exp → List Row
 laid r up (letter l) = row (is_letter l) 0 0 up ∷ []
 laid r up (seq e f) = row is_seq (suc r) (suc r + rows e) up ∷ (laid (suc r) r e ++ laid (suc r + rows e) r f)
 laid r up (alt e f) = row is_alt (suc r) (suc r + rows e) up ∷ (laid (suc r) r e ++ laid (suc r + rows e) r f)
-laid r up (star e) = row is-star (suc r) 0 up ∷ laid (suc r) r e
+laid r up (star e) = row is_star (suc r) 0 up ∷ laid (suc r) r e
 laid r up (pipe e f) = row is_pipe (suc r) (suc r + rows e) up ∷ (laid (suc r) r e ++ laid (suc r + rows e) r f)
 
 -- the rows of its letters, in reading order

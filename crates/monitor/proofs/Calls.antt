@@ -238,10 +238,10 @@ module _ (text : List ℕ) (o : Opened) (e : open_text text ≡ value o) where
     abbrev Good : (K : List ℕ) → List ℕ → Type 0
     Good K = Memory (shut_in (first K)) (rows_of (shut_in (first K)) steps (Program.table_of o) (at w b σ)) o.row_count
 
-    step_from : (K : List ℕ) (xs : List machine.Positions) → MarksAll K 0 0 o.monitors xs
+    step_from_lem : (K : List ℕ) (xs : List machine.Positions) → MarksAll K 0 0 o.monitors xs
         → Steps o.monitors (at w b σ) σ padded (length o.initial) (machine.go_each 0 o.monitors xs (at w b σ)) (step_within g (layout_of v) K)
     unfolding v
-    step_from K xs h =
+    step_from_lem K xs h =
         let start = begun g K o.letter_count in
         let same : v.letters ≡ o.letter_count = Program.letters-counted o c in
         steps-right (Good K) (λ M p. p.bits) g (at w b σ) (layout_of v) K
@@ -260,7 +260,7 @@ module _ (text : List ℕ) (o : Opened) (e : open_text text ≡ value o) where
       → Steps o.monitors (machine.seen m w) m.stores padded (length o.initial) (machine.ticked o.monitors m w) (step_within (given_of v s.values (two w s.last)) (layout_of v) s.marks)
   step_right s m l w =
       subst₂ (λ (z : List ℕ) (b : ℕ). Steps o.monitors (machine.seen m w) m.stores padded (length o.initial) (machine.ticked o.monitors m w) (step_within (given_of v z (two w b)) (layout_of v) s.marks))
-      (sym l.values) (sym l.last) (step_from m.stores l.long w m.last s.marks m.positions l.marks)
+      (sym l.values) (sym l.last) (step_from_lem m.stores l.long w m.last s.marks m.positions l.marks)
 
   -- at its opening it is like the machine
   start-like : Like o.monitors padded (length o.initial) (state_of v).inner (machine.opened o.monitors o.initial)

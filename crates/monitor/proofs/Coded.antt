@@ -3,7 +3,7 @@ use mathlib.Core.Path.{◌≡◌}
 use Prim.Native.Nat.{ℕ, ◌<◌, ◌≤◌}
 use lib.ListN.{get_or}
 use Rattle.meaning.specs.Fit.{Tick, meets}
-use Rattle.meaning.specs.Table.{Kind, is_letter, is_seq, is_alt, is-star, is_pipe, Row, Table}
+use Rattle.meaning.specs.Table.{Kind, is_letter, is_seq, is_alt, is_star, is_pipe, Row, Table}
 use Rattle.words.specs.Words.{part0, part1, part2, part3}
 use Rattle.monitor.specs.Letters.{Given, letter_met}
 
@@ -12,7 +12,7 @@ abbrev pub CodedAs : Given → Tick → (n left right x : ℕ) → Kind → Type
 CodedAs g t n left right x (is_letter l) = (part0 x ≡ 0) × (part1 x ≡ l.number) × (l.number < 256) × (letter_met g l.number ≡ meets l t)
 CodedAs g t n left right x is_seq = (part0 x ≡ 1) × (part1 x ≡ left) × (part2 x ≡ right) × (left < n) × (right < n)
 CodedAs g t n left right x is_alt = (part0 x ≡ 2) × (part1 x ≡ left) × (part2 x ≡ right) × (left < n) × (right < n)
-CodedAs g t n left right x is-star = (part0 x ≡ 3) × (part1 x ≡ left) × (left < n)
+CodedAs g t n left right x is_star = (part0 x ≡ 3) × (part1 x ≡ left) × (left < n)
 CodedAs g t n left right x is_pipe = (part0 x ≡ 4) × (part1 x ≡ left) × (part2 x ≡ right) × (left < n) × (right < n)
 
 -- the operands of an `@` stand behind the row that they point up at, the thread behind the left one

@@ -8,7 +8,7 @@ use lib.Dec.{eqb}
 use lib.ListN.{length, length-append, length-map}
 use Rattle.meaning.specs.Lists.{total}
 use Rattle.meaning.specs.Expression.{Exp, letter, seq, alt, star, pipe, size, rows}
-use Rattle.meaning.specs.Table.{Kind, is_letter, is_seq, is_alt, is-star, is_pipe, Row, Table, Holds, laid, letter_rows, laid_all}
+use Rattle.meaning.specs.Table.{Kind, is_letter, is_seq, is_alt, is_star, is_pipe, Row, Table, Holds, laid, letter_rows, laid_all}
 use Rattle.meaning.proofs.Rows.{Stands, laid-length, letters-length, laid-holds}
 use Rattle.meaning.proofs.Within.{Each}
 use Rattle.words.specs.Words.{part0}
@@ -33,7 +33,7 @@ kind-small : (k : Kind) → kind_code k < 65536
 kind-small (is_letter l) = omega arith
 kind-small is_seq = omega arith
 kind-small is_alt = omega arith
-kind-small is-star = omega arith
+kind-small is_star = omega arith
 kind-small is_pipe = omega arith
 
 -- they stand in the rows' words

@@ -203,7 +203,7 @@ module _ (ls : List Limit) (ms : List Exp) (wires : ℕ) where
   unfolding state_from
   few-from s f [] = f
   few-from s f (look w ∷ cs) = few-from s f cs
-  few-from s f (take w ∷ cs) = few-from _ (few-after s f w (reply (judged ls ms) wires s w) refl) cs
+  few-from s f (take w ∷ cs) = few-from (after (onward ms) s w (reply (judged ls ms) wires s w)) (few-after s f w (reply (judged ls ms) wires s w) refl) cs
 
 pub ticks-few : (ls : List Limit) (ms : List Exp) (initial : List ℕ) (wires : ℕ) (cs : List Call) → length (standing ls ms initial wires cs).inner.ticks ≤ 1000000
 ticks-few ls ms initial wires cs = let (a, b) = few-from ls ms wires (opening (start initial)) (refl, omega arith) cs in omega (arith, a, b)

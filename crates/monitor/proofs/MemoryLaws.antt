@@ -12,7 +12,7 @@ use lib.ListN.{get_or, set, length-set}
 use lib.Seq.{get_or-set_same, get_or-set_other}
 use Rattle.meaning.specs.Fit.{Tick, meets}
 use Rattle.meaning.specs.Positions.{joined, Entered, met, passed, blocked, then_enter, or_enter, or_pass, goes_by}
-use Rattle.meaning.specs.Table.{Under, Kind, is_letter, is_seq, is_alt, is-star, is_pipe, Table}
+use Rattle.meaning.specs.Table.{Under, Kind, is_letter, is_seq, is_alt, is_star, is_pipe, Table}
 use Rattle.meaning.specs.RowWalk.{enter_by, leave_by, enter_row, ask_row, leave_row}
 use Rattle.lexer.proofs.Bools.{eqb-sym}
 use Rattle.meaning.proofs.ListLaws.{here, one-∈, is_false}
@@ -162,7 +162,7 @@ module _ (shut : ℕ → Bool) (R : Table) (g : Given) (t : Tick) (n : ℕ) (cod
   enter_on-right enter is_alt left right x c f h e M m =
       let p = f c.3 e.0 M m in
       rw (c.0, c.1, c.2) (enter-or (enter_row shut N R left t) (enter_row shut N R right t) p (h c.4 e.1 (enter left M).memory p.marks.good))
-  enter_on-right enter is-star left right x c f h e M m = rw (c.0, c.1) (enter-star (enter_row shut N R left t) (f c.2 e M m))
+  enter_on-right enter is_star left right x c f h e M m = rw (c.0, c.1) (enter-star (enter_row shut N R left t) (f c.2 e M m))
   enter_on-right enter is_pipe left right x c f h e M m = rw (c.0, c.1) (f c.3 e M m)
 
   -- an operand of row u, of kind k, is left; o: it is the left one
@@ -175,7 +175,7 @@ module _ (shut : ℕ → Bool) (R : Table) (g : Given) (t : Tick) (n : ℕ) (cod
   leave_to-right enter ask leave is_seq true left right x u r d c f h i j e M m = rw (c.0, c.1, c.2, eqb-sym left r, d) (f c.4 e M m)
   leave_to-right enter ask leave is_seq false left right x u r d c f h i j e M m = rw (c.0, c.1, eqb-sym left r, d) (h e M m)
   leave_to-right enter ask leave is_alt o left right x u r d c f h i j e M m = rw c.0 (h e M m)
-  leave_to-right enter ask leave is-star o left right x u r d c f h i j e M m = rw c.0 (i e M m)
+  leave_to-right enter ask leave is_star o left right x u r d c f h i j e M m = rw c.0 (i e M m)
   leave_to-right enter ask leave is_pipe true left right x u r d c f h i j e M m =
       let (p, q) = j refl refl c.4 e.1 in
       let s = p M m in

@@ -31,7 +31,7 @@ use Rattle.monitor.proofs.Coded.{Threaded, Coded}
 use Rattle.meaning.proofs.Bounded.{few_monitors}
 use Rattle.monitor.proofs.Stored.{stands_at, stands_self, each_at, stored, taken, drop-replicate}
 use Rattle.monitor.proofs.Numbered.{program_of, InOrder, numbered-in-order, total-numbered, length-numbered, watch-numbered, numbers-below}
-use Rattle.monitor.proofs.RowWords.{word_of, RowFits, Tested, words-laid, words_long, row_word, all_fit, all-threaded, row-coded}
+use Rattle.monitor.proofs.RowWords.{word_of, RowFits, Tested, words-laid, words_long, row_word_lem, all_fit, all-threaded, row-coded}
 use Rattle.monitor.proofs.LetterIndex.{LetterStands, all-letters}
 use Rattle.monitor.proofs.LetterRows.{rows_of_letters, kinds, kinds_kept, HeldAll, all-letters-laid, rows-of-letters-long, all-rows-low, all_held}
 
@@ -129,7 +129,7 @@ module _ (o : Opened) (c : Counted o) where
   pub words_right : (r : ℕ) → r < o.row_count → get_or (watch_of (value o)).table r 0 ≡ word_of (table_of o r)
   words_right r h =
       ap (λ (v : Watch). get_or v.table r 0) (watch-numbered o)
-      ∙ row_word (program_of o) in_order (omega (arith, program-rows, c.few_rows)) r (omega (arith, program-rows))
+      ∙ row_word_lem (program_of o) in_order (omega (arith, program-rows, c.few_rows)) r (omega (arith, program-rows))
 
   -- The table is the words of meaning's rows, and zeros behind them.
   pub table-right : (watch_of (value o)).table ≡ map word_of (laid_all 0 (program_of o)) ++ replicate (1024 - o.row_count) 0

@@ -8,7 +8,7 @@ use lib.ListN.{length, length-map, get_or}
 use Rattle.meaning.specs.Lists.{◌∈◌, total}
 use Rattle.meaning.specs.Expression.{Letter, Exp, letter, seq, alt, star, pipe, letters, size, rows}
 use Rattle.meaning.specs.Fit.{Tick, meets}
-use Rattle.meaning.specs.Table.{Kind, is_letter, is_seq, is_alt, is-star, is_pipe, Row, row, Table, laid, laid_all, no_row, as_table}
+use Rattle.meaning.specs.Table.{Kind, is_letter, is_seq, is_alt, is_star, is_pipe, Row, row, Table, laid, laid_all, no_row, as_table}
 use Rattle.meaning.proofs.ListLaws.{here, there, clash, ∈-left, ∈-right}
 use Rattle.meaning.proofs.Walk.{a-row}
 use Rattle.meaning.proofs.Rows.{Stands, laid-length, rows-no-more}
@@ -44,8 +44,8 @@ module _ (gs : List Exp) (order : InOrder 0 gs) where
   pub words_long : length (map row_word (codes_all 0 0 gs)) ≡ total rows gs
   words_long = ap length words-laid ∙ length-map (laid_all 0 gs) word_of ∙ rows-no-more 0 gs
 
-  pub row_word : total rows gs ≤ 1024 → (r : ℕ) → r < total rows gs → get_or (with_monitors no_lists 0 0 0 gs).table r 0 ≡ word_of (as_table (laid_all 0 gs) r)
-  row_word few r h =
+  pub row_word_lem : total rows gs ≤ 1024 → (r : ℕ) → r < total rows gs → get_or (with_monitors no_lists 0 0 0 gs).table r 0 ≡ word_of (as_table (laid_all 0 gs) r)
+  row_word_lem few r h =
       stored_at 1024 (map row_word (codes_all 0 0 gs)) r (omega (arith, words_long)) (omega (arith, words_long))
       ∙ ap (λ (c : List ℕ). get_or c r 0) words-laid ∙ map_at word_of no_row (laid_all 0 gs) r (omega (arith, rows-no-more 0 gs))
 
@@ -56,7 +56,7 @@ module _ (Q : Letter → Type 0) (n : ℕ) where
   LetterIs (is_letter l) = Q l
   LetterIs is_seq = Unit {0}
   LetterIs is_alt = Unit {0}
-  LetterIs is-star = Unit {0}
+  LetterIs is_star = Unit {0}
   LetterIs is_pipe = Unit {0}
 
   -- its operands and the row above it are among n rows, and its letter is as Q says
@@ -198,5 +198,5 @@ module _ (g : Given) (t : Tick) (n w : ℕ) (few : n ≤ 1024) where
           )
       by is_seq q h = let (a, b, c, d) = operator 1 (omega arith) q in ((a, b, c, f.left-low, f.right-low), d)
       by is_alt q h = let (a, b, c, d) = operator 2 (omega arith) q in ((a, b, c, f.left-low, f.right-low), d)
-      by is-star q h = let (a, b, c, d) = operator 3 (omega arith) q in ((a, b, f.left-low), d)
+      by is_star q h = let (a, b, c, d) = operator 3 (omega arith) q in ((a, b, f.left-low), d)
       by is_pipe q h = let (a, b, c, d) = operator 4 (omega arith) q in ((a, b, c, f.left-low, f.right-low), d)

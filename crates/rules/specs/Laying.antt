@@ -5,7 +5,7 @@ use Rattle.std.proofs.lemmas.List.Edits.{sets}
 use Rattle.meaning.specs.Lists.{each}
 use Rattle.meaning.specs.Expression.{Letter, Exp, letter, seq, alt, star, pipe, letters, size, rows}
 use Rattle.masks.specs.Masks.{look, want, held}
-use Rattle.meaning.specs.Table.{Row, Kind, is_letter, is_seq, is_alt, is-star, is_pipe}
+use Rattle.meaning.specs.Table.{Row, Kind, is_letter, is_seq, is_alt, is_star, is_pipe}
 use Rattle.words.specs.Words.{quad}
 use Rattle.rules.specs.Cells.{Link, tests_on, writes_on, LinkAt, Links, LetterNode, Denotes}
 
@@ -35,14 +35,14 @@ abbrev pub kind_code : Kind → ℕ
 kind_code (is_letter x) = 0
 kind_code is_seq = 1
 kind_code is_alt = 2
-kind_code is-star = 3
+kind_code is_star = 3
 kind_code is_pipe = 4
 
 abbrev pub left_code : (l left : ℕ) → Kind → ℕ
 left_code l left (is_letter x) = l + x.number
 left_code l left is_seq = left
 left_code l left is_alt = left
-left_code l left is-star = left
+left_code l left is_star = left
 left_code l left is_pipe = left
 
 abbrev pub code_of : (l : ℕ) → Row → RowCode

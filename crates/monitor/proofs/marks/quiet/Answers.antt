@@ -7,9 +7,9 @@ use Rattle.monitor.proofs.Marked.{eight-zero}
 use Rattle.monitor.proofs.marks.quiet.Goals as goal
 
 pub returns-then-to-from : goal.returns-then-to-from
-returns-then-to-from c = clash (cc e)
+returns-then-to-from c e = clash (cc e)
 
 pub returns : goal.returns
-returns c =
+returns c e =
     let a = c.args in
     (omega arith, eight-zero a.marks.now a.from (eqb-true _ 0 e))
