@@ -134,7 +134,7 @@ def main():
                 if not (new in LEMMAS and any(k == "lemma" for n, k in declared(path) if n == new)):
                     print(f"{path}: {name} -> {new}: the new name stands there already")
         here = dict(renames)
-        if path.endswith("live/proofs/CallSteps.antt"):
+        if "crates/live/" in path:
             here.pop("a-store")
         for name, origins in lemma_files.items():
             for origin in origins:

@@ -73,13 +73,13 @@ module _ (n : ℕ) (shorter : (s : Run) (a : List ℕ) → length a ≤ n → (b
   on-reply w k e (calls.bad i) = refl
   on-reply w k e (calls.refused i p) = refl
 
-  on_read : (r : Answer Item) → read_record a s.before ≡ r → Splits s a b
-  on_read (value (word w k)) e =
+  on_read_lem : (r : Answer Item) → read_record a s.before ≡ r → Splits s a b
+  on_read_lem (value (word w k)) e =
       ap closed (run_step s (a ++ b) ∙ ap (λ (x : Answer Item). on_read x s (a ++ b) run_over) (stays m given b s.before _ e (λ f. clash (cc))))
       ∙ on-reply w k e (reply_of s.watch w)
       ∙ sym (ap (λ (x : Ran). continued x b) (run_step s a ∙ ap (λ (x : Answer Item). on_read x s a run_over) e))
-  on_read (value end) e = sym (ap (λ (x : Ran). continued x b) (run_step s a ∙ ap (λ (x : Answer Item). on_read x s a run_over) e))
-  on_read (refused k p) e = by (eqb k torn) refl
+  on_read_lem (value end) e = sym (ap (λ (x : Ran). continued x b) (run_step s a ∙ ap (λ (x : Answer Item). on_read x s a run_over) e))
+  on_read_lem (refused k p) e = by (eqb k torn) refl
     where
       by : (t : Bool) → eqb k torn ≡ t → Splits s a b
       by true f =
@@ -98,7 +98,7 @@ unfolding run_on
 splits zero s [] h b = refl
 splits zero s (m ∷ given) h b = absurd (omega (arith, h))
 splits (suc n) s [] h b = refl
-splits (suc n) s (m ∷ given) h b = on_read n (splits n) s m given h b (read_record (m ∷ given) s.before) refl
+splits (suc n) s (m ∷ given) h b = on_read_lem n (splits n) s m given h b (read_record (m ∷ given) s.before) refl
 
 -- ---- what is left
 

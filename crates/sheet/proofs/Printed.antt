@@ -75,11 +75,11 @@ module _ (o : Opened) where
     on-reply w n e (bad m) f = rw (e, agree-reply v s a w (bad m) f) (append-nil (bad_line v.ticks w m ++ foot_of v) ∙ ap (λ (l : List ℕ). bad_line v.ticks w m ++ l) (agree-foot v s a))
     on-reply w n e (calls.refused m p) f = rw (e, agree-reply v s a w (calls.refused m p) f) (append-nil (refusal_line m (v.ticks ∷ [])))
 
-    on_read : (r : trace.Answer Item) → read_record rest before ≡ r → closed (on_read r (run v before) rest (run_on k)) ≡ tick_lines (suc k) o s v.ticks rest before
+    on_read_lem : (r : trace.Answer Item) → read_record rest before ≡ r → closed (on_read r (run v before) rest (run_on k)) ≡ tick_lines (suc k) o s v.ticks rest before
     unfolding tick_lines
-    on_read (trace.value (word w n)) e = on-reply w n e (reply_of v w) refl
-    on_read (trace.value end) e = rw (e, (end-exactly rest before).0 e) (ap (λ (l : List ℕ). clean_line v.ticks ++ l) (agree-foot v s a))
-    on_read (trace.refused number place) e = by rest e (eqb number 13) refl
+    on_read_lem (trace.value (word w n)) e = on-reply w n e (reply_of v w) refl
+    on_read_lem (trace.value end) e = rw (e, (end-exactly rest before).0 e) (ap (λ (l : List ℕ). clean_line v.ticks ++ l) (agree-foot v s a))
+    on_read_lem (trace.refused number place) e = by rest e (eqb number 13) refl
       where
         by : (bs : List ℕ) → read_record bs before ≡ trace.refused number place → (b : Bool) → eqb number 13 ≡ b
             → closed (cond b (ran [] (run v before) bs false) (ran (refusal_line number (v.ticks ∷ [])) (run v before) bs true)) ≡ tick_lines (suc k) o s v.ticks bs before
@@ -91,7 +91,7 @@ module _ (o : Opened) where
   unfolding run_on tick_lines
   prints zero v s before [] short a = ap (λ (l : List ℕ). clean_line v.ticks ++ l) (agree-foot v s a)
   prints zero v s before (b ∷ rest) short a = absurd (omega (arith, short))
-  prints (suc k) v s before rest short a = on_read k (prints k) v s before rest short a (read_record rest before) refl
+  prints (suc k) v s before rest short a = on_read_lem k (prints k) v s before rest short a (read_record rest before) refl
 
 pub sheet-printed : (text records : List ℕ) → sheet_of (open_text text) records ≡ sheet text records
 unfolding sheet watch_of counts_of

@@ -9,5 +9,5 @@ returns c =
     let a = c.args in
     let p = c.put_monitors-lines.ensures in
     foot-put (totals_in a.firsts.now a.totals.now a.monitors a.letters) _ (record { wrote = p.0; behind = p.1 }) p.2 p.3
-    (record { wrote = c₁.put-text.ensures.0; behind = c₁.put-text.ensures.1 }) (record { wrote = c₂.put-decimal.ensures.0; behind = c₂.put-decimal.ensures.1 })
-    (record { wrote = c₃.put.ensures.0; behind = c₃.put.ensures.1 }) c₂.put-decimal.ensures.2
+    (record { wrote = c.put_text-named.ensures.0; behind = c.put_text-named.ensures.1 }) (record { wrote = c.put_decimal-summed.ensures.0; behind = c.put_decimal-summed.ensures.1 })
+    (record { wrote = c.put.ensures.0; behind = c.put.ensures.1 }) c.put_decimal-summed.ensures.2

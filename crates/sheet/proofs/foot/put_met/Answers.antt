@@ -7,7 +7,7 @@ use Rattle.sheet.proofs.foot.put_met.Goals as goal
 pub returns : goal.returns
 returns c =
     let a = c.args in
-    met-put a.monitor a.letter a.count (record { wrote = e₁.put-text.ensures.0; behind = e₁.put-text.ensures.1 }) (record { wrote = e₂.put-decimal.ensures.0; behind = e₂.put-decimal.ensures.1 })
-    (record { wrote = e₃.put.ensures.0; behind = e₃.put.ensures.1 }) (record { wrote = e₄.put-decimal2.ensures.0; behind = e₄.put-decimal2.ensures.1 })
-    (record { wrote = e₅.put2.ensures.0; behind = e₅.put2.ensures.1 }) (record { wrote = e₆.put-decimal3.ensures.0; behind = e₆.put-decimal3.ensures.1 })
-    (record { wrote = e₇.put3.ensures.0; behind = e₇.put3.ensures.1 }) (met-short a.monitor a.letter a.count c.requires.0 c.requires.1 c.requires.2)
+    met-put a.monitor a.letter a.count (record { wrote = c.put_text-named.ensures.0; behind = c.put_text-named.ensures.1 }) (record { wrote = c.put_decimal-owned.ensures.0; behind = c.put_decimal-owned.ensures.1 })
+    (record { wrote = c.put-parted.ensures.0; behind = c.put-parted.ensures.1 }) (record { wrote = c.put_decimal-numbered.ensures.0; behind = c.put_decimal-numbered.ensures.1 })
+    (record { wrote = c.put-again.ensures.0; behind = c.put-again.ensures.1 }) (record { wrote = c.put_decimal-counted.ensures.0; behind = c.put_decimal-counted.ensures.1 })
+    (record { wrote = c.put.ensures.0; behind = c.put.ensures.1 }) (met-short a.monitor a.letter a.count c.requires.0 c.requires.1 c.requires.2)

@@ -5,4 +5,4 @@ use Rattle.sheet.proofs.lines.lay.Goals as goal
 pub returns : goal.returns
 returns c =
     let f = c.fill_decimal in
-    laid-blank c.args.line.now f.new.1.0 f.result c.args.t c.requires f.ensures.0 f.ensures.1 f.ensures.2
+    laid-blank c.args.line.now f.new.line f.result c.args.t c.requires f.ensures.0 f.ensures.1 f.ensures.2

@@ -11,7 +11,7 @@ loop-i-preserved c =
     let p = c.put-place in
     let l = c.loop-i in
     let a = c.args in
-    (omega arith, omega arith, put-more a.out.now l.out p.new.1.0 a.text.now a.at l.place p.result l.i (omega arith) l.invariant.2 p.ensures.0 p.ensures.1)
+    (omega arith, omega arith, put-more a.out.now l.out p.new.out a.text.now a.at l.place p.result l.i (omega arith) l.invariant.2 p.ensures.0 p.ensures.1)
 
 pub shape_of-out : goal.shape_of-out
 shape_of-out c =
