@@ -15,7 +15,7 @@ ghost use Rattle.live.specs.Codes.{answer_code, open_code, is_open};
 
 use counts::{COSTS as ASKED, PLACES as LEFT};
 use monitor::{
-    counts_of, is_bad, layout_of, letter_at, peek, refused_by, step, tables_of, touched,
+    counts_of, is_bad, layout_of, letter_at, peek_in, refused_by, step_in, tables_of, touched_in,
 };
 use rules::{Outcome, Watch, open};
 use state::{
@@ -163,7 +163,7 @@ fn peek_on<'a>(
 ) -> usize
     ensures { result ≡ (tick_in words.now (record { marks = marks.entry.now; values = values.now; last = past; totals = []; windows = windows.now }) word).answer }
 {
-    peek(
+    peek_in(
         &words[TABLES],
         &words[FRAME][LAYOUT],
         marks,
@@ -185,7 +185,7 @@ fn step_on<'a>(
 ) -> usize
     ensures { stepped result marks.exit.now values.new windows.new ≡ tick_in words.now (record { marks = marks.entry.now; values = values.old; last = past; totals = []; windows = windows.old }) word }
 {
-    step(
+    step_in(
         &words[TABLES],
         &words[FRAME][LAYOUT],
         marks,
@@ -200,7 +200,7 @@ fn step_on<'a>(
 fn touched_on<'a>(words: &'a [[[u64; 1024]; 4]; 2], marks: &'a [u8; 288]) -> usize
     ensures { result ≡ touched_with words.now marks.now }
 {
-    touched(
+    touched_in(
         &words[TABLES],
         &words[FRAME][LAYOUT],
         &words[FRAME][PLACES],

@@ -1,6 +1,6 @@
 // The watch at work: `look` answers what a word would come to, and `take` answers the same, tells how many rows the tick touched,
 // and gives the watch that it moved on to. For loops, which must not copy a watch, `tables_of`, `layout_of` and `counts_of` lay out
-// once what the ticks need; `refused_by`, `peek` or `step`, `is_bad`, `touched` and `count_met` are what a look or a take is made of.
+// once what the ticks need; `refused_by`, `peek_in` or `step_in`, `is_bad`, `touched_in` and `count_met` are what a look or a take is made of.
 // What they answer is said for every watch, also one that no call ever gave (specs/Calls.antt, specs/Ticks.antt,
 // specs/Limited.antt).
 mod busy;
@@ -18,7 +18,7 @@ mod walk;
 ghost use Rattle.std.specs.Prelude.{◌≡◌, true, List, [], ◌∷◌, ℕ, suc, ◌≤◌, ◌<◌, min, get_or};
 ghost use Rattle.meaning.specs.Calls.{is_stray};
 ghost use Rattle.monitor.specs.Letters.{given};
-ghost use Rattle.monitor.specs.Ticks.{places_in, own_in, layout_in, within, reached, shut_busy, monitors_go, write_if, write_marked};
+ghost use Rattle.monitor.specs.Ticks.{places_in, own_in, layout, layout_in, within, reached, shut_busy, monitors_go, write_if, write_marked};
 ghost use Rattle.windows.specs.Windows.{counted_in};
 ghost use Rattle.monitor.specs.Tally.{counts as counts_from, touched_of};
 ghost use Rattle.monitor.specs.Limited.{answer_at, is_bad, stepped, tick_of};
@@ -38,7 +38,7 @@ pub use positions::{letter_at, letters_end};
 use rules::Watch;
 pub use tables::tables_of;
 use tables::{LETTERS, THREADS};
-pub use tally::touched;
+pub use tally::{touched, touched_in};
 pub use totals::count_met;
 use words::{least, part1, part2, part3};
 
@@ -112,8 +112,9 @@ pub fn is_bad(answer: usize) -> bool
     answer < FINE
 }
 
-// What a look does with a word that is not refused, on lent tables and with the word before: its answer.
-pub fn peek<'a>(
+// What a look does with a word that is not refused, on lent tables and with the word before: its answer. The block of words is that
+// of `layout_of`.
+pub fn peek_in<'a>(
     tables: &'a [[u64; 1024]; 4],
     layout: &'a [u64; 1024],
     marks: &'a [u8; 288],
@@ -134,7 +135,7 @@ pub fn peek<'a>(
 
 // What a take does with a word that is not refused: the same, and marks, store values and windows are then those after the tick, or
 // as they were where it is bad. The tick count, the stop, the word before and the totals are the caller's to keep.
-pub fn step<'a>(
+pub fn step_in<'a>(
     tables: &'a [[u64; 1024]; 4],
     layout: &'a [u64; 1024],
     marks: &mut [u8; 288],
@@ -159,6 +160,48 @@ pub fn step<'a>(
     write_marked(writers, &words, marks, tables, values);
     pass_tick(windows, mask);
     number
+}
+
+// The same as `peek_in`, with the arrays and numbers that the block is laid out from.
+pub fn peek<'a>(
+    tables: &'a [[u64; 1024]; 4],
+    places: &'a [u16; 256],
+    own: &'a [u16; 32],
+    firsts: &'a [u16; 32],
+    monitors: usize,
+    letters: usize,
+    counted: &'a [u8; 256],
+    marks: &'a [u8; 288],
+    values: &'a [u64; 16],
+    windows: &'a [u16; 1056],
+    past: u64,
+    word: u64,
+) -> usize
+    ensures { result ≡ answer_at (given tables.now values.now (word ∷ past ∷ [])) (layout places.now own.now firsts.now monitors letters) marks.now counted.now windows.now }
+{
+    let block = layout_of(places, own, firsts, counted, monitors, letters, 0, 0, 0);
+    peek_in(tables, &block, marks, values, windows, past, word)
+}
+
+// The same as `step_in`, with those.
+pub fn step<'a>(
+    tables: &'a [[u64; 1024]; 4],
+    places: &'a [u16; 256],
+    own: &'a [u16; 32],
+    firsts: &'a [u16; 32],
+    monitors: usize,
+    letters: usize,
+    counted: &'a [u8; 256],
+    marks: &mut [u8; 288],
+    values: &mut [u64; 16],
+    windows: &mut [u16; 1056],
+    past: u64,
+    word: u64,
+) -> usize
+    ensures { stepped result marks.new values.new windows.new ≡ tick_of (given tables.now values.old (word ∷ past ∷ [])) (layout places.now own.now firsts.now monitors letters) marks.old counted.now windows.old }
+{
+    let block = layout_of(places, own, firsts, counted, monitors, letters, 0, 0, 0);
+    step_in(tables, &block, marks, values, windows, past, word)
 }
 
 // ---- calls
@@ -258,7 +301,7 @@ pub fn look(watch: Watch, word: u64) -> Answer
         watch.stores,
         watch.rows,
     );
-    let answer = peek(
+    let answer = peek_in(
         &tables,
         &layout,
         &watch.marks,
@@ -282,7 +325,7 @@ fn touched_by<'a>(
 ) -> usize
     ensures { result ≡ min (touched_of (counts_from (get_or tables.now 0 []) counts.now (places_in layout.now)) (own_in layout.now) marks.now (get_or layout.now 576 0) (get_or layout.now 577 0)) 65535 }
 {
-    touched(tables, layout, &counts[PLACES], &counts[COSTS], marks)
+    touched_in(tables, layout, &counts[PLACES], &counts[COSTS], marks)
 }
 
 // What the word comes to, and the watch after it. A bad tick leaves the watch stopped and otherwise as before it; a refused take
@@ -315,7 +358,7 @@ pub fn take(watch: Watch, word: u64) -> Taken
     let mut marks = watch.marks;
     let mut values = watch.values;
     let mut windows = watch.windows;
-    let answer = step(
+    let answer = step_in(
         &tables,
         &layout,
         &mut marks,

@@ -4,7 +4,7 @@ ghost use Rattle.std.specs.Prelude.{◌≡◌};
 ghost use Rattle.windows.specs.Windows.{counted_in};
 ghost use Rattle.monitor.specs.Limited.{tick_mask, answer_by, windows_after};
 
-use windows::{first_beyond, met_mask, pass};
+use windows::{first_beyond, met_mask_in, pass};
 use words::least;
 
 // Where the windows have the number of limits.
@@ -25,7 +25,7 @@ pub(crate) fn tick_mask(
     if windows[LIMITS] == 0 {
         return 0;
     }
-    met_mask(letters, memory, layout)
+    met_mask_in(letters, memory, layout)
 }
 
 // What a tick is answered with: the monitor reached, of so many, if it does not go on; else 32 and the lowest limit that the tick is

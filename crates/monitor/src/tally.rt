@@ -2,12 +2,12 @@
 ghost use Rattle.std.specs.Prelude.{◌≡◌, List, [], ℕ, ◌+◌, ◌/◌, ◌%◌, ◌<◌, ◌≤◌, min, get_or};
 ghost use Rattle.words.specs.Words as word;
 ghost use Rattle.monitor.specs.Ticks.{places_in, own_in};
-ghost use Rattle.monitor.specs.Tally.{counts_by, tallied, ask_thread, ask_threads, touch_letter, touch_marked, touch_starts, touched_of};
+ghost use Rattle.monitor.specs.Tally.{counts as counts_from, counts_by, tallied, ask_thread, ask_threads, touch_letter, touch_marked, touch_starts, touched_of};
 
-use super::layout::{letters_in, monitors_in, own_of, row_of};
+use super::layout::{layout_of, letters_in, monitors_in, own_of, row_of};
 use super::marks::first_marked;
 use super::tables::ROWS;
-use counts::count_in;
+use counts::{COSTS, PLACES, count_in};
 use words::{least, part0, part1, part2, part3, word_at};
 
 // The largest number that is told. No accepted text touches as many rows.
@@ -158,7 +158,7 @@ fn touch_starts(
 
 // How many rows a tick touches that follows the marks, by the places and the costs of the rows, which `counts_of` lays out: 65,535
 // where there are more, as in no accepted text.
-pub fn touched<'a>(
+pub fn touched_in<'a>(
     tables: &'a [[u64; 1024]; 4],
     layout: &'a [u64; 1024],
     places: &'a [u64; 1024],
@@ -174,4 +174,22 @@ pub fn touched<'a>(
         touch_starts(monitors, marks, layout, costs),
         touch_marked(letters, marks, layout, tables, places, costs, &mut asked),
     )
+}
+
+// The same, with the places and the costs as `counts_of` gives them, and the arrays and numbers that the block is laid out from.
+pub fn touched<'a>(
+    tables: &'a [[u64; 1024]; 4],
+    counts: &'a [[u64; 1024]; 2],
+    rows: &'a [u16; 256],
+    own: &'a [u16; 32],
+    monitors: usize,
+    letters: usize,
+    marks: &'a [u8; 288],
+) -> usize
+    ensures { result ≡ min (touched_of (counts_from (get_or tables.now 0 []) counts.now rows.now) own.now marks.now monitors letters) 65535 }
+{
+    let firsts = [0u16; 32];
+    let counted = [0u8; 256];
+    let block = layout_of(rows, own, &firsts, &counted, monitors, letters, 0, 0, 0);
+    touched_in(tables, &block, &counts[PLACES], &counts[COSTS], marks)
 }

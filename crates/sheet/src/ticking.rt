@@ -9,7 +9,7 @@ ghost use Rattle.sheet.specs.Items.{item_of};
 use super::foot::put_foot;
 use super::lines::{count_on, lay, put_bad, put_ok, put_refusal};
 use super::page::pairs;
-use monitor::{count_met, is_bad, layout_of, refused_by, step, tables_of};
+use monitor::{count_met, is_bad, layout_of, refused_by, step_in, tables_of};
 use rules::Watch;
 use trace::{Read, read_record};
 
@@ -183,7 +183,7 @@ pub(crate) fn run_from(watch: Watch, before: u64, records: &[u8], out: &mut [u8]
                 true,
             );
         }
-        let answer = step(
+        let answer = step_in(
             &tables,
             &layout,
             &mut marks,

@@ -27,19 +27,33 @@ fn if_marked(mark: u8, limits: u8) -> u8
     std::num::wrapping_sub_u8(0, (mark != 0) as u8) & limits
 }
 
-// Where the block of words that a tick is lent has, for each letter, the limits that count it, as the lowest 8 bits of a word.
-pub const COUNTED: usize = 320;
-
 // The limits that count one of the letters marked in the memory, of 256 at most.
-pub fn met_mask(letters: usize, memory: &[u8; 1280], layout: &[u64; 1024]) -> u8
-    ensures { result ≡ met_mask memory.now (counted_in layout.now) (min letters 256) }
+pub fn met_mask(letters: usize, memory: &[u8; 1280], counted: &[u8; 256]) -> u8
+    ensures { result ≡ met_mask memory.now counted.now (min letters 256) }
 {
     let end = least(letters, 256);
     let mut mask: u8 = 0;
     let mut letter: usize = 0;
     while letter < end {
+        mask = mask | if_marked(memory[1024 + letter], counted[letter]);
+        letter += 1;
+    }
+    mask
+}
+
+// Where the block of words that a tick is lent has, for each letter, the limits that count it, as the lowest 8 bits of a word.
+pub const COUNTED: usize = 320;
+
+// The same, where the limits that count each letter stand in that block.
+pub fn met_mask_in(letters: usize, memory: &[u8; 1280], layout: &[u64; 1024]) -> u8
+    ensures { result ≡ met_mask memory.now (counted_in layout.now) (min letters 256) }
+{
+    let count = least(letters, 256);
+    let mut mask: u8 = 0;
+    let mut letter: usize = 0;
+    while letter < count {
         let limits = (layout[COUNTED + letter] % 256) as u8;
-        mask = mask | if_marked(memory[1024 + letter], limits);
+        mask |= if_marked(memory[1024 + letter], limits);
         letter += 1;
     }
     mask

@@ -5,4 +5,4 @@ use Rattle.live.proofs.CallSteps.{tick-answers}
 use Rattle.live.proofs.peek_on.Goals as goal
 
 pub returns : goal.returns
-returns c = c.peek.ensures ∙ sym (tick-answers _ _ _ _ _)
+returns c = c.peek_in.ensures ∙ sym (tick-answers _ _ _ _ _)

@@ -45,7 +45,7 @@ shape_of-out-then-is_bad c = kept-foot c.loop-tables.invariant.0 _ (bad_line _ _
 pub returns-then-is_bad : goal.returns-then-is_bad
 returns-then-is_bad c =
     left_by c.loop-tables.invariant.0 _ _ _ c.leave-then-is_bad.ensures
-    (going-bad c.loop-tables.invariant.0 _ c.read_item-next.ensures c.if-next-ne0.false _ c.refused_by-number.ensures c.if-number-ne0.false _ c.tables_of-tables.ensures _ c.layout_of-layout.ensures _ _ _ _ c.step-answer.ensures _ c.is_bad.ensures c.if-is_bad.true _ _ c.put_bad-line_end.ensures.0 c.put_bad-line_end.ensures.1 c.put_bad-line_end.ensures.2 _ _ c.put_foot-end.ensures.0 c.put_foot-end.ensures.1 c.put_foot-end.ensures.2)
+    (going-bad c.loop-tables.invariant.0 _ c.read_item-next.ensures c.if-next-ne0.false _ c.refused_by-number.ensures c.if-number-ne0.false _ c.tables_of-tables.ensures _ c.layout_of-layout.ensures _ _ _ _ c.step_in-answer.ensures _ c.is_bad.ensures c.if-is_bad.true _ _ c.put_bad-line_end.ensures.0 c.put_bad-line_end.ensures.1 c.put_bad-line_end.ensures.2 _ _ c.put_foot-end.ensures.0 c.put_foot-end.ensures.1 c.put_foot-end.ensures.2)
 
 pub put_ok-place-requires : goal.put_ok-place-requires
 put_ok-place-requires c = (c.pairs-digits.ensures, c.loop-tables.invariant.1, omega (arith, c.loop-tables.invariant.0.few))
@@ -57,7 +57,7 @@ pub overflow_add-ticks : goal.overflow_add-ticks
 overflow_add-ticks c = omega (arith, going-few c.loop-tables.invariant.0 _ c.read_item-next.ensures c.if-next-ne0.false _ c.refused_by-number.ensures c.if-number-ne0.false)
 
 pub loop-tables-preserved : goal.loop-tables-preserved
-loop-tables-preserved c = (going-ok c.loop-tables.invariant.0 _ c.read_item-next.ensures c.if-next-ne0.false _ c.refused_by-number.ensures c.if-number-ne0.false _ c.tables_of-tables.ensures _ c.layout_of-layout.ensures _ _ _ _ c.step-answer.ensures _ c.is_bad.ensures c.if-is_bad.false _ c.count_met.ensures _ _ c.put_ok-place.ensures.1 c.put_ok-place.ensures.2 c.put_ok-place.ensures.3, c.count_on-from.ensures)
+loop-tables-preserved c = (going-ok c.loop-tables.invariant.0 _ c.read_item-next.ensures c.if-next-ne0.false _ c.refused_by-number.ensures c.if-number-ne0.false _ c.tables_of-tables.ensures _ c.layout_of-layout.ensures _ _ _ _ c.step_in-answer.ensures _ c.is_bad.ensures c.if-is_bad.false _ c.count_met.ensures _ _ c.put_ok-place.ensures.1 c.put_ok-place.ensures.2 c.put_ok-place.ensures.3, c.count_on-from.ensures)
 
 pub overflow_add-used : goal.overflow_add-used
 overflow_add-used c = omega (arith, (loop-tables-preserved c).0.within, c.well_formed.1.1.0.0)

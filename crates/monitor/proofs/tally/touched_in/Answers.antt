@@ -1,4 +1,4 @@
--- `monitor::tally::touched` meets its contract.
+-- `monitor::tally::touched_in` meets its contract.
 -- Assumes nothing.
 use mathlib.Core.List.{[]}
 use mathlib.Core.Path.{◌∙◌, ap}
@@ -8,7 +8,7 @@ use lib.ListN.{get_or}
 use Rattle.monitor.specs.Ticks.{places_in, own_in}
 use Rattle.monitor.specs.Tally.{counts_by}
 use Rattle.monitor.proofs.TallySteps.{both-touched}
-use Rattle.monitor.proofs.tally.touched.Goals as goal
+use Rattle.monitor.proofs.tally.touched_in.Goals as goal
 
 pub more-requires : goal.more-requires
 more-requires c =

@@ -1,11 +1,11 @@
--- `monitor::step` meets its contract.
+-- `monitor::step_in` meets its contract.
 -- Assumes nothing.
 use mathlib.Core.List.{[], ◌∷◌}
 use Rattle.monitor.proofs.TickSteps.{step-stops, step-moves}
 use Rattle.windows.specs.Windows.{counted_in}
 use Rattle.monitor.specs.Letters.{given}
 use Rattle.monitor.specs.Ticks.{layout_in}
-use Rattle.monitor.proofs.step.Goals as goal
+use Rattle.monitor.proofs.step_in.Goals as goal
 
 pub returns-then-is_bad : goal.returns-then-is_bad
 returns-then-is_bad c =

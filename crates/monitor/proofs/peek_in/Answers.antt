@@ -1,11 +1,11 @@
--- `monitor::peek` meets its contract.
+-- `monitor::peek_in` meets its contract.
 -- Assumes nothing.
 use mathlib.Core.List.{[], ◌∷◌}
 use Rattle.monitor.proofs.TickSteps.{answer-right}
 use Rattle.windows.specs.Windows.{counted_in}
 use Rattle.monitor.specs.Letters.{given}
 use Rattle.monitor.specs.Ticks.{layout_in}
-use Rattle.monitor.proofs.peek.Goals as goal
+use Rattle.monitor.proofs.peek_in.Goals as goal
 
 pub returns : goal.returns
 returns c =
