@@ -1,4 +1,4 @@
-// Links the static library of the crate `sheet`, which `rt staticlib sheet` puts into `target/staticlib` of the project.
+// Links the static library of the crate `sheet_c`, which `client/library` puts into `target/staticlib` of the project.
 fn main() {
     let folder = concat!(env!("CARGO_MANIFEST_DIR"), "/../target/staticlib");
     println!("cargo:rustc-link-search=native={folder}");

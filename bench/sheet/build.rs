@@ -1,4 +1,4 @@
-// Links the static library of the crate `sheet`, from the folder that `run` names.
+// Links the static library of the crate `sheet_c`, from the folder that `run` names.
 fn main() {
     println!("cargo:rustc-link-search=native={}", std::env::var("STATICLIB").unwrap());
     println!("cargo:rustc-link-lib=static=sheet");

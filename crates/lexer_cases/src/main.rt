@@ -1,54 +1,58 @@
 // Token cases: standard input holds texts, each closed by a `$`. For each it prints a line with the text's tokens, by kind, places
 // and value, and a line with where the token lies that is read from each position, one past the end included.
-ghost use Rattle.std.specs.Prelude.{◌≤◌, length};
+
+#![tactic(auto)]
+
+ghost use Rattle.std.specs.Prelude.{◌≤◌, length, IfOk};
 
 use lexer::{Kind, Token, Word, rule_words, token_at};
-use libc::{STDIN_FILENO, STDOUT_FILENO};
+use std::io;
+use std::io::Read;
 
 const CLOSE: u8 = b'$';
 
-fn print(text: &[u8]) {
-    io::write_all(STDOUT_FILENO, text);
+fn print(rt: &impl Print, text: &str) -> io::Result<()> {
+    print!(rt; "{text}")
 }
 
-fn print_number(n: u64) {
-    io::print_decimal(STDOUT_FILENO, n);
+fn print_number(rt: &impl Print, n: u64) -> io::Result<()> {
+    print!(rt; "{n}")
 }
 
-fn print_word(w: Word) {
+fn print_word(rt: &impl Print, w: Word) -> io::Result<()> {
     match w {
-        Word::Input => print(b"input"),
-        Word::Internal => print(b"internal"),
-        Word::Define => print(b"define"),
-        Word::Monitor => print(b"monitor"),
-        Word::Past => print(b"past"),
-        Word::Limit => print(b"limit"),
-        Word::To => print(b"to"),
-        Word::In => print(b"in"),
+        Word::Input => print(rt, "input"),
+        Word::Internal => print(rt, "internal"),
+        Word::Define => print(rt, "define"),
+        Word::Monitor => print(rt, "monitor"),
+        Word::Past => print(rt, "past"),
+        Word::Limit => print(rt, "limit"),
+        Word::To => print(rt, "to"),
+        Word::In => print(rt, "in"),
     }
 }
 
-fn print_kind(k: Kind) {
+fn print_kind(rt: &impl Print, k: Kind) -> io::Result<()> {
     match k {
-        Kind::Name => print(b"name"),
-        Kind::Word(w) => print_word(w),
+        Kind::Name => print(rt, "name"),
+        Kind::Word(w) => print_word(rt, w),
         Kind::Number(n) => {
-            print(b"number ");
-            print_number(n);
+            print(rt, "number ")?;
+            print_number(rt, n)
         }
         Kind::Sign(n) => {
-            print(b"sign ");
-            print_number(n as u64);
+            print(rt, "sign ")?;
+            print_number(rt, n as u64)
         }
-        Kind::End => print(b"end"),
-        Kind::Knot => print(b"knot"),
+        Kind::End => print(rt, "end"),
+        Kind::Knot => print(rt, "knot"),
     }
 }
 
-fn print_places(t: Token) {
-    print_number(t.place as u64);
-    print(b"-");
-    print_number(t.after as u64);
+fn print_places(rt: &impl Print, t: Token) -> io::Result<()> {
+    print_number(rt, t.place as u64)?;
+    print(rt, "-")?;
+    print_number(rt, t.after as u64)
 }
 
 // Whether the token is the last that is read.
@@ -64,34 +68,35 @@ fn is_last(k: Kind) -> bool {
 }
 
 // The tokens of a text, of which there are at most its bytes and the last.
-fn print_tokens(text: &[u8]) {
+fn print_tokens(rt: &impl Print, text: &[u8]) -> io::Result<()> {
     let mut at = 0;
     let mut turns = 0;
     while turns <= text.len() {
         let t = token_at(rule_words(), text, at);
         let k = t.kind;
-        print_places(t);
-        print(b" ");
-        print_kind(k);
+        print_places(rt, t)?;
+        print(rt, " ")?;
+        print_kind(rt, k)?;
         if is_last(k) {
-            return;
+            return Ok(());
         }
-        print(b", ");
+        print(rt, ", ")?;
         at = t.after;
         turns += 1;
     }
+    Ok(())
 }
 
 // Where the token lies that is read from each position.
-fn print_positions(text: &[u8]) {
+fn print_positions(rt: &impl Print, text: &[u8]) -> io::Result<()> {
     let mut at = 0;
     while at <= text.len() {
-        print(b"  ");
-        print_places(token_at(rule_words(), text, at));
+        print(rt, "  ")?;
+        print_places(rt, token_at(rule_words(), text, at))?;
         at += 1;
     }
-    print(b"  ");
-    print_places(token_at(rule_words(), text, at));
+    print(rt, "  ")?;
+    print_places(rt, token_at(rule_words(), text, at))
 }
 
 // Where the text ends that begins at `from`.
@@ -109,21 +114,38 @@ fn case_end(all: &[u8], from: usize) -> usize
     i
 }
 
-fn run_cases(all: &[u8]) {
+fn run_cases(rt: &impl Print, all: &[u8]) -> io::Result<()> {
     let mut from = 0;
     while from < all.len() {
         let to = case_end(all, from);
         let text = &all[from..to];
-        print_tokens(text);
-        print(b"\n");
-        print_positions(text);
-        print(b"\n");
+        print_tokens(rt, text)?;
+        print(rt, "\n")?;
+        print_positions(rt, text)?;
+        print(rt, "\n")?;
         from = to + 1;
     }
+    Ok(())
 }
 
-fn main() {
-    let mut buf = io::large_buffer();
-    let n = io::read_full(STDIN_FILENO, &mut buf);
-    run_cases(&buf[..n]);
+// Reads until `buf` is full or the input ends, and answers how many bytes it put at the start of `buf`.
+fn read_full(rt: &impl Input, buf: &mut [u8]) -> io::Result<usize>
+    ensures { IfOk result (λ n. n ≤ length buf.new) }
+{
+    let mut reader = rt.reader();
+    let mut done = 0;
+    while done < buf.len() {
+        let n = reader.read(&mut buf[done..])?;
+        if n == 0 {
+            break;
+        }
+        done += n;
+    }
+    Ok(done)
+}
+
+fn main(rt: HostRuntime) -> io::Result<()> {
+    let mut buf = [0; 65536];
+    let n = read_full(&rt, &mut buf)?;
+    run_cases(&rt, &buf[..n])
 }

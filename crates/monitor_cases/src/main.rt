@@ -1,9 +1,12 @@
 // Looks and takes on watches that no opening gives, whose rows lead round in circles. A row is entered once a tick and leaving never forks, so
 // that each answer comes within some million calls (specs/Walk.antt of `monitor`); without that the first would take 2^4096.
 
+#![tactic(auto)]
+
 mod show;
 
 use rules::Watch;
+use std::io;
 use words::quad;
 
 // The kinds of rows.
@@ -56,7 +59,13 @@ fn marked(starts: u8) -> [u8; 288] {
 
 // A look and a take of a word by 32 monitors, each with row 0 as its own and the last with all 256 letters, each met as often as can be
 // told, and counted by every limit, of more than there are.
-fn call(table: [u64; 1024], starts: u8, ticks: u64, stopped: bool) {
+fn call(
+    rt: &impl Print,
+    table: [u64; 1024],
+    starts: u8,
+    ticks: u64,
+    stopped: bool,
+) -> io::Result<()> {
     let places = fourth();
     let marks = marked(starts);
     let watch = Watch {
@@ -84,25 +93,25 @@ fn call(table: [u64; 1024], starts: u8, ticks: u64, stopped: bool) {
         windows: [65535; 1056],
     };
     let looked = monitor::look(watch, 0);
-    show::answer(b"look ", looked);
+    show::answer(rt, "look ", looked)?;
     let taken = monitor::take(watch, 0);
     let answer = taken.answer;
-    show::answer(b"take ", answer);
+    show::answer(rt, "take ", answer)
 }
 
-fn main() {
+fn main(rt: HostRuntime) -> io::Result<()> {
     // each operand is the next row, or the row itself, or rows further on: no letter is ever reached
-    call(circle(ALTERNATIVE, 1, 1, 1), 1, 0, false);
-    call(circle(ALTERNATIVE, 0, 0, 1), 1, 0, false);
-    call(circle(SEQUENCE, 2, 3, 5), 1, 0, false);
+    call(&rt, circle(ALTERNATIVE, 1, 1, 1), 1, 0, false)?;
+    call(&rt, circle(ALTERNATIVE, 0, 0, 1), 1, 0, false)?;
+    call(&rt, circle(SEQUENCE, 2, 3, 5), 1, 0, false)?;
     // stars around stars: each can be left, and the one above is asked again
-    call(circle(STAR, 1, 0, 1), 1, 0, false);
+    call(&rt, circle(STAR, 1, 0, 1), 1, 0, false)?;
     // every letter is left up a long line, which ends
-    call(line(ALTERNATIVE), 0, 0, false);
+    call(&rt, line(ALTERNATIVE), 0, 0, false)?;
     // and up one that does not
-    call(circle(ALTERNATIVE, 1, 1, 1), 0, 0, false);
+    call(&rt, circle(ALTERNATIVE, 1, 1, 1), 0, 0, false)?;
     // the last tick that there is, and one more; a stopped watch is that first
-    call(line(ALTERNATIVE), 0, 999999, false);
-    call(line(ALTERNATIVE), 0, 1000000, false);
-    call(line(ALTERNATIVE), 0, 1000000, true);
+    call(&rt, line(ALTERNATIVE), 0, 999999, false)?;
+    call(&rt, line(ALTERNATIVE), 0, 1000000, false)?;
+    call(&rt, line(ALTERNATIVE), 0, 1000000, true)
 }

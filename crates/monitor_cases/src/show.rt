@@ -1,24 +1,24 @@
 // Prints calls and their answers.
-use libc::STDOUT_FILENO;
 use monitor::Answer;
+use std::io;
 
-fn print(text: &[u8]) {
-    io::write_all(STDOUT_FILENO, text);
+fn print(rt: &impl Print, text: &str) -> io::Result<()> {
+    print!(rt; "{text}")
 }
 
 // A word and a number.
-fn numbered(text: &[u8], n: u64) {
-    print(text);
-    io::print_decimal(STDOUT_FILENO, n);
-    print(b"\n");
+fn numbered(rt: &impl Print, text: &str, n: u64) -> io::Result<()> {
+    print(rt, text)?;
+    print!(rt; "{n}")?;
+    print(rt, "\n")
 }
 
 // A call, and what it was answered with.
-pub fn answer(call: &[u8], answer: Answer) {
-    print(call);
+pub fn answer(rt: &impl Print, call: &str, answer: Answer) -> io::Result<()> {
+    print(rt, call)?;
     match answer {
-        Answer::Ok => print(b"ok\n"),
-        Answer::Bad(monitor) => numbered(b"bad ", monitor as u64),
-        Answer::Refused(number) => numbered(b"refused ", number as u64),
+        Answer::Ok => print(rt, "ok\n"),
+        Answer::Bad(monitor) => numbered(rt, "bad ", monitor as u64),
+        Answer::Refused(number) => numbered(rt, "refused ", number as u64),
     }
 }

@@ -1,6 +1,7 @@
 // Ten thousand words that a generator makes, written as a trace and read back.
 
 use super::show;
+use std::io;
 
 const MANY: usize = 10_000;
 
@@ -45,24 +46,29 @@ fn agreeing(a: &[u64], b: &[u64]) -> usize {
     n
 }
 
-fn through(words: &mut [u64], records: &mut [u8], back: &mut [u64]) {
+fn through(
+    rt: &impl Print,
+    words: &mut [u64],
+    records: &mut [u8],
+    back: &mut [u64],
+) -> io::Result<()> {
     fill(words);
-    show::counted(b"length ", trace::trace_length(words));
+    show::counted(rt, "length ", trace::trace_length(words))?;
     let written = trace::write_trace(words, records);
-    show::written(written);
+    show::written(rt, written)?;
     let trace::Written::Length(length) = written else {
-        return;
+        return Ok(());
     };
     if records.len() < length {
-        return;
+        return Ok(());
     }
-    show::trace(trace::read_trace(&records[0..length], back));
-    show::counted(b"agreeing ", agreeing(words, back));
+    show::trace(rt, trace::read_trace(&records[0..length], back))?;
+    show::counted(rt, "agreeing ", agreeing(words, back))
 }
 
-pub fn there_and_back() {
+pub fn there_and_back(rt: &impl Print) -> io::Result<()> {
     let mut words: [u64; MANY] = [0; MANY];
     let mut records: [u8; 90_000] = [0; 90_000];
     let mut back: [u64; MANY] = [0; MANY];
-    through(&mut words, &mut records, &mut back);
+    through(rt, &mut words, &mut records, &mut back)
 }

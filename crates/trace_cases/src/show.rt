@@ -1,87 +1,88 @@
 // Prints what the reader and the writer answer: a value, or `refused` with number and place.
 
-use libc::STDOUT_FILENO;
+use std::io;
 use trace::{Read, TraceRead, Written};
 
-pub fn print(text: &[u8]) {
-    io::write_all(STDOUT_FILENO, text);
+pub fn print(rt: &impl Print, text: &str) -> io::Result<()> {
+    print!(rt; "{text}")
 }
 
-fn number(n: u64) {
-    io::print_decimal(STDOUT_FILENO, n);
+fn number(rt: &impl Print, n: u64) -> io::Result<()> {
+    print!(rt; "{n}")
 }
 
-fn refused(no: u64, place: usize) {
-    print(b"refused ");
-    number(no);
-    print(b" ");
-    number(place as u64);
-    print(b"\n");
+fn refused(rt: &impl Print, no: u64, place: usize) -> io::Result<()> {
+    print(rt, "refused ")?;
+    number(rt, no)?;
+    print(rt, " ")?;
+    number(rt, place as u64)?;
+    print(rt, "\n")
 }
 
-pub fn counted(what: &[u8], n: usize) {
-    print(what);
-    number(n as u64);
-    print(b"\n");
+pub fn counted(rt: &impl Print, what: &str, n: usize) -> io::Result<()> {
+    print(rt, what)?;
+    number(rt, n as u64)?;
+    print(rt, "\n")
 }
 
-pub fn read(answer: Read) {
+pub fn read(rt: &impl Print, answer: Read) -> io::Result<()> {
     match answer {
         Read::Word(word, length) => {
-            print(b"word ");
-            io::print_hex(STDOUT_FILENO, word, 16);
-            counted(b" ", length);
+            print!(rt; "word {word:016x}")?;
+            counted(rt, " ", length)
         }
-        Read::End => print(b"end\n"),
-        Read::Torn(at) => refused(13, at),
-        Read::Idle(at) => refused(14, at),
+        Read::End => print(rt, "end\n"),
+        Read::Torn(at) => refused(rt, 13, at),
+        Read::Idle(at) => refused(rt, 14, at),
     }
 }
 
-pub fn written(answer: Written) {
+pub fn written(rt: &impl Print, answer: Written) -> io::Result<()> {
     match answer {
-        Written::Length(length) => counted(b"written ", length),
-        Written::Short => refused(18, 0),
+        Written::Length(length) => counted(rt, "written ", length),
+        Written::Short => refused(rt, 18, 0),
     }
 }
 
-pub fn trace(answer: TraceRead) {
+pub fn trace(rt: &impl Print, answer: TraceRead) -> io::Result<()> {
     match answer {
-        TraceRead::Words(n) => counted(b"words ", n),
-        TraceRead::Torn(at) => refused(13, at),
-        TraceRead::Idle(at) => refused(14, at),
-        TraceRead::Short => refused(18, 0),
+        TraceRead::Words(n) => counted(rt, "words ", n),
+        TraceRead::Torn(at) => refused(rt, 13, at),
+        TraceRead::Idle(at) => refused(rt, 14, at),
+        TraceRead::Short => refused(rt, 18, 0),
     }
 }
 
-fn space() {
-    print(b" ");
+fn space(rt: &impl Print) -> io::Result<()> {
+    print(rt, " ")
 }
 
-fn line_feed() {
-    print(b"\n");
+fn line_feed(rt: &impl Print) -> io::Result<()> {
+    print(rt, "\n")
 }
 
 fn wide(b: u8) -> u64 {
     b as u64
 }
 
-pub fn bytes(buffer: &[u8]) {
+pub fn bytes(rt: &impl Print, buffer: &[u8]) -> io::Result<()> {
     let mut i = 0;
     while i < buffer.len() {
-        space();
-        io::print_hex(STDOUT_FILENO, wide(buffer[i]), 2);
+        space(rt)?;
+        let b = wide(buffer[i]);
+        print!(rt; "{b:02x}")?;
         i += 1;
     }
-    line_feed();
+    line_feed(rt)
 }
 
-pub fn words(list: &[u64]) {
+pub fn words(rt: &impl Print, list: &[u64]) -> io::Result<()> {
     let mut i = 0;
     while i < list.len() {
-        space();
-        io::print_hex(STDOUT_FILENO, list[i], 16);
+        space(rt)?;
+        let word = list[i];
+        print!(rt; "{word:016x}")?;
         i += 1;
     }
-    line_feed();
+    line_feed(rt)
 }

@@ -5,7 +5,7 @@ use lib.ListN.{length}
 use Rattle.lexer_cases.proofs.print_positions.Given as goal
 
 abbrev pub invariant-loop-at : goal.invariant-loop-at
-invariant-loop-at l = at ≤ length l.text + 1
+invariant-loop-at g l = l.at ≤ length l.text + 1
 
 abbrev pub decreases-loop-at : goal.decreases-loop-at
-decreases-loop-at l = length l.text + 1 - at
+decreases-loop-at g l = length l.text + 1 - l.at

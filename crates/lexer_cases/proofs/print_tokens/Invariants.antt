@@ -4,8 +4,5 @@ use Prim.Native.Nat.{◌-◌, ◌+◌}
 use lib.ListN.{length}
 use Rattle.lexer_cases.proofs.print_tokens.Given as goal
 
-abbrev pub invariant-loop-turns : goal.invariant-loop-turns
-invariant-loop-turns l = Unit {0}
-
 abbrev pub decreases-loop-turns : goal.decreases-loop-turns
-decreases-loop-turns l = length l.text + 1 - turns
+decreases-loop-turns g l = length l.text + 1 - l.turns

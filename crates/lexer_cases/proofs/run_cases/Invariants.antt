@@ -4,8 +4,5 @@ use Prim.Native.Nat.{◌-◌}
 use lib.ListN.{length}
 use Rattle.lexer_cases.proofs.run_cases.Given as goal
 
-abbrev pub invariant-loop-from : goal.invariant-loop-from
-invariant-loop-from l = Unit {0}
-
 abbrev pub decreases-loop-from : goal.decreases-loop-from
-decreases-loop-from l = length l.all - from
+decreases-loop-from g l = length l.all - l.from
