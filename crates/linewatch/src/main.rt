@@ -3,33 +3,40 @@
 // `trace.bin` may be a FIFO that a recorder feeds. A trace may have any length: a read takes what is there, up to 4,096 bytes, and
 // a record cut by its end is read again with the next bytes. An empty read is the end of the trace, and so is one that fails, but
 // one that was interrupted is made again. A standard output that takes no more ends the program at the next line, without a word.
-ghost use Rattle.std.specs.Prelude.{◌≡◌, length};
+#![tactic(auto)]
 
-use libc::{EINTR, STDOUT_FILENO};
+ghost use Rattle.std.specs.Prelude.{◌≡◌, ◌≤◌, length};
+
 use rules::Watch;
 use sheet::{begin, finish, run};
+use std::fs;
+use std::io::{ErrorKind, Read};
+use std::rt::Files;
 
 // More reads than any trace takes, since the program is proved to end. A record has at most 9 bytes, and the one behind 1,000,000
 // ticks ends every sheet: a recorder that gives one byte at a time is asked at most 9,000,009 times, the empty read at the end of
 // its trace among them. That leaves 999,991 reads that may be interrupted.
 const READS: usize = 10000000;
 
-fn main() {
+fn main(rt: HostRuntime) {
     let mut text = text_room();
-    let long = read_file(b"rules.txt", &mut text);
+    let long = read_file(&rt, "rules.txt", &mut text);
     if 16385 < long {
         return;
     }
     let mut line = [0u8; 128];
     let begun = begin(&text[0..long], &mut line);
-    if !print(&line, begun.at) {
+    if !print(&rt, &line, begun.at) {
         return;
     }
     if begun.ended {
         return;
     }
     let watch = begun.watch;
-    watch_trace(os::open_read(b"trace.bin"), watch);
+    match fs::open(&rt, "trace.bin") {
+        Ok(mut trace) => watch_trace(&rt, &mut trace, watch),
+        Err(_) => end(&rt, watch, 0),
+    }
 }
 
 // Room for one byte more than a text may have: by that a longer one is told.
@@ -47,23 +54,43 @@ fn sheet_room() -> [u8; 139264]
     [0; 139264]
 }
 
-// Fills the buffer from a file: how many bytes there were.
-fn read_file(name: &[u8], buffer: &mut [u8]) -> usize {
-    let fd = os::open_read(name);
-    if fd < 0 {
-        return 0;
+// Room for the bytes of a trace that are not judged yet.
+fn trace_room() -> [u8; 4096]
+    ensures { 4096 ≡ length result }
+{
+    [0; 4096]
+}
+
+// Reads until the buffer is full, the input ends or a read fails: how many bytes there are.
+fn read_full(input: &mut impl Read, buffer: &mut [u8]) -> usize
+    ensures { result ≤ length buffer.new }
+{
+    let mut done: usize = 0;
+    while done < buffer.len() {
+        match input.read(&mut buffer[done..]) {
+            Ok(0) | Err(_) => break,
+            Ok(got) => done += got,
+        }
     }
-    let got = io::read_full(fd, buffer);
-    libc::close(fd);
-    got
+    done
+}
+
+// Fills the buffer from a file: how many bytes there were.
+fn read_file(rt: &impl Files, name: &str, buffer: &mut [u8]) -> usize
+    ensures { result ≤ length buffer.new }
+{
+    match fs::open(rt, name) {
+        Ok(mut file) => read_full(&mut file, buffer),
+        Err(_) => 0,
+    }
 }
 
 // Prints the first bytes of a buffer: whether they were taken.
-fn print(bytes: &[u8], count: usize) -> bool {
+fn print(rt: &impl Print, bytes: &[u8], count: usize) -> bool {
     if bytes.len() < count {
         return false;
     }
-    io::write_all(STDOUT_FILENO, &bytes[0..count])
+    rt.write_all(&bytes[0..count]).is_ok()
 }
 
 // What a read came to: how many bytes there are then, and whether no more come.
@@ -74,29 +101,22 @@ struct Filled {
 }
 
 // Reads once, behind the bytes that were kept. A read that was interrupted gives nothing, and more may come.
-fn fill(fd: i32, buffer: &mut [u8], kept: usize) -> Filled {
+fn fill(trace: &mut impl Read, buffer: &mut [u8], kept: usize) -> Filled {
     if buffer.len() < kept {
         return Filled {
             all: kept,
             ended: true,
         };
     }
-    let room = buffer.len() - kept;
-    let answer = libc::read(fd, &mut buffer[kept..]);
-    if answer < 0 {
-        let ended = os::errno() != EINTR;
-        return Filled { all: kept, ended };
-    }
-    let got = io::count(answer, buffer);
-    if room < got {
-        return Filled {
+    match trace.read(&mut buffer[kept..]) {
+        Ok(got) => Filled {
+            all: kept + got,
+            ended: got == 0,
+        },
+        Err(error) => Filled {
             all: kept,
-            ended: true,
-        };
-    }
-    Filled {
-        all: kept + got,
-        ended: got == 0,
+            ended: error.kind() != ErrorKind::Interrupted,
+        },
     }
 }
 
@@ -117,18 +137,17 @@ fn keep(buffer: &mut [u8], used: usize, all: usize) -> usize {
     count
 }
 
-// Runs the watch over a trace, read by read. One that could not be opened has no bytes to read. A run takes the watch by value and
-// lays out its tables, 4 to 6 µs for each read, however much it gave: little beside the lines of 4,096 bytes, and most of the time
-// where a recorder gives one byte at a time.
-fn watch_trace(fd: i32, watch: Watch) {
+// Runs the watch over a trace, read by read. A run takes the watch by value and lays out its tables, 4 to 6 µs for each read,
+// however much it gave: little beside the lines of 4,096 bytes, and most of the time where a recorder gives one byte at a time.
+fn watch_trace(rt: &impl Print, trace: &mut impl Read, watch: Watch) {
     let mut now = watch;
     let mut before: u64 = 0;
-    let mut buffer = io::buffer();
+    let mut buffer = trace_room();
     let mut out = sheet_room();
     let mut kept: usize = 0;
     let mut reads: usize = 0;
     while reads < READS {
-        let filled = fill(fd, &mut buffer, kept);
+        let filled = fill(trace, &mut buffer, kept);
         if filled.ended {
             break;
         }
@@ -137,7 +156,7 @@ fn watch_trace(fd: i32, watch: Watch) {
             break;
         }
         let ran = run(now, before, &buffer[0..all], &mut out);
-        if !print(&out, ran.at) {
+        if !print(rt, &out, ran.at) {
             return;
         }
         if ran.ended {
@@ -148,12 +167,12 @@ fn watch_trace(fd: i32, watch: Watch) {
         kept = keep(&mut buffer, ran.used, all);
         reads += 1;
     }
-    end(now, kept);
+    end(rt, now, kept);
 }
 
 // Prints the last lines.
-fn end(watch: Watch, left: usize) {
+fn end(rt: &impl Print, watch: Watch, left: usize) {
     let mut lines = [0u8; 8192];
     let at = finish(watch, left, &mut lines);
-    print(&lines, at);
+    print(rt, &lines, at);
 }

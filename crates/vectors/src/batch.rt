@@ -7,9 +7,10 @@
 ghost use Rattle.std.specs.Prelude.{◌≡◌, length};
 
 use crate::cases::{length_at, wide};
+use crate::input::read_full;
 use crate::{calls, show};
-use libc::{STDIN_FILENO, STDOUT_FILENO};
 use sheet::linewatch_sheet;
+use std::io::{Input, Read};
 
 // So many cases are answered at most.
 const CASES: usize = 1_000_000;
@@ -32,35 +33,35 @@ fn page_room() -> [u8; 131072]
 }
 
 // The byte that comes next, or none.
-fn read_byte() -> usize {
+fn read_byte(input: &mut impl Read) -> usize {
     let mut byte = [0u8; 1];
-    if io::read_full(STDIN_FILENO, &mut byte) != 1 {
+    if read_full(input, &mut byte) != 1 {
         return NONE;
     }
     wide(byte[0])
 }
 
-fn read_number() -> usize {
+fn read_number(input: &mut impl Read) -> usize {
     let mut bytes = [0u8; 4];
-    if io::read_full(STDIN_FILENO, &mut bytes) != 4 {
+    if read_full(input, &mut bytes) != 4 {
         return NONE;
     }
     length_at(&bytes, 0)
 }
 
 // The string that comes next: its length in the buffer, or none.
-fn read_string(buffer: &mut [u8]) -> usize {
-    let long = read_number();
+fn read_string(input: &mut impl Read, buffer: &mut [u8]) -> usize {
+    let long = read_number(input);
     if buffer.len() < long {
         return NONE;
     }
-    if io::read_full(STDIN_FILENO, &mut buffer[0..long]) != long {
+    if read_full(input, &mut buffer[0..long]) != long {
         return NONE;
     }
     long
 }
 
-fn write_string(bytes: &[u8]) -> bool {
+fn write_string(rt: &impl Print, bytes: &[u8]) -> bool {
     let n = bytes.len();
     let long = [
         (n % 256) as u8,
@@ -68,10 +69,10 @@ fn write_string(bytes: &[u8]) -> bool {
         (n / 65536 % 256) as u8,
         (n / 16777216 % 256) as u8,
     ];
-    if !io::write_all(STDOUT_FILENO, &long) {
+    if rt.write_all(&long).is_err() {
         return false;
     }
-    io::write_all(STDOUT_FILENO, bytes)
+    rt.write_all(bytes).is_ok()
 }
 
 // The sheet on the page: its length, or none where it is too long.
@@ -98,21 +99,21 @@ fn answer(kind: usize, text: &[u8], other: &[u8], page: &mut [u8]) -> usize {
 }
 
 // Reads the strings of a case and answers it: whether there was one.
-fn answer_case(kind: usize) -> bool {
-    if read_number() != 3 {
+fn answer_case(rt: &impl Print, input: &mut impl Read, kind: usize) -> bool {
+    if read_number(input) != 3 {
         return false;
     }
     let mut text = string_room();
-    let flags = read_string(&mut text);
+    let flags = read_string(input, &mut text);
     if flags == NONE {
         return false;
     }
-    let text_end = read_string(&mut text);
+    let text_end = read_string(input, &mut text);
     if text.len() < text_end {
         return false;
     }
     let mut other = string_room();
-    let other_end = read_string(&mut other);
+    let other_end = read_string(input, &mut other);
     if other.len() < other_end {
         return false;
     }
@@ -121,18 +122,19 @@ fn answer_case(kind: usize) -> bool {
     if page.len() < end {
         return false;
     }
-    write_string(&page[0..end])
+    write_string(rt, &page[0..end])
 }
 
 // Answers cases until there are no more.
-pub fn run() {
+pub fn run<R: Input + Print>(rt: &R, errors: &impl Print) {
+    let mut input = rt.reader();
     for _ in 0..CASES {
-        let kind = read_byte();
+        let kind = read_byte(&mut input);
         if kind == NONE {
             return;
         }
-        if !answer_case(kind) {
-            show::complain(b"vectors: no such case, or one too long\n");
+        if !answer_case(rt, &mut input, kind) {
+            show::complain(errors, b"vectors: no such case, or one too long\n");
             return;
         }
     }

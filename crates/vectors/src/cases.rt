@@ -2,7 +2,10 @@
 // holds anything else is named as damaged.
 ghost use Rattle.std.specs.Prelude.{◌≡◌, ◌+◌, ◌<◌, ◌≤◌, length};
 
+use crate::input::read_full;
 use crate::{sheets, show};
+use std::fs;
+use std::rt::Files;
 
 // No place in a file.
 const NOWHERE: usize = usize::MAX;
@@ -56,6 +59,7 @@ fn part(file: &[u8], at: usize) -> &[u8] {
 
 // 1 if the case whose name, text, trace and sheet begin there differs, with its name printed.
 fn differing(
+    rt: &impl Print,
     list: &[u8],
     file: &[u8],
     name: usize,
@@ -68,18 +72,18 @@ fn differing(
     if sheets::is_right(part(file, text), part(file, trace), part(file, sheet)) {
         return 0;
     }
-    show::differs(list, part(file, name));
+    show::differs(rt, list, part(file, name));
     1
 }
 
-fn damaged(list: &[u8], at: usize) {
-    show::print(list);
-    show::print(b": damaged case at byte ");
-    show::number(at);
-    show::print(b"\n");
+fn damaged(rt: &impl Print, list: &[u8], at: usize) {
+    show::print(rt, list);
+    show::print(rt, b": damaged case at byte ");
+    show::number(rt, at);
+    show::print(rt, b"\n");
 }
 
-fn walk(list: &[u8], file: &[u8]) {
+fn walk(rt: &impl Print, list: &[u8], file: &[u8]) {
     let mut cases = 0;
     let mut differ = 0;
     let mut at = 0;
@@ -89,14 +93,14 @@ fn walk(list: &[u8], file: &[u8]) {
         let sheet = after(file, trace);
         let next = after(file, sheet);
         if next <= at || file.len() < next {
-            damaged(list, at);
+            damaged(rt, list, at);
             return;
         }
-        differ += differing(list, file, at, text, trace, sheet);
+        differ += differing(rt, list, file, at, text, trace, sheet);
         cases += 1;
         at = next;
     }
-    show::tally(list, cases, differ);
+    show::tally(rt, list, cases, differ);
 }
 
 // Room for a file: about twice the largest. A larger one is cut, and so damaged.
@@ -107,14 +111,15 @@ fn room() -> [u8; 1_048_576]
 }
 
 // Prints the sheet of every case of the file with that name, compares it, and prints the tally.
-pub fn run(list: &[u8]) {
-    let fd = os::open_read(list);
-    if fd < 0 {
-        os::fail(list);
-        return;
-    }
+pub fn run<R: Files + Print>(rt: &R, errors: &impl Print, list: &str) {
+    let mut opened = match fs::open(rt, list) {
+        Ok(opened) => opened,
+        Err(error) => {
+            show::fail(errors, list.as_bytes(), &error);
+            return;
+        }
+    };
     let mut file = room();
-    let n = io::read_full(fd, &mut file);
-    libc::close(fd);
-    walk(list, &file[..n]);
+    let n = read_full(&mut opened, &mut file);
+    walk(rt, list.as_bytes(), &file[..n]);
 }

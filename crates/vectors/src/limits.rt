@@ -45,7 +45,7 @@ fn put_each(page: &mut [u8], at: usize, pattern: &[u8], first: u64, end: u64) ->
 }
 
 // 1 if the text, which ends at `n`, does not give the sheet with an empty trace, with its name printed.
-fn differing(name: &[u8], page: &[u8], n: usize, right: &[u8]) -> usize
+fn differing(rt: &impl Print, name: &[u8], page: &[u8], n: usize, right: &[u8]) -> usize
     ensures { result ≤ 1 }
 {
     if n <= page.len() {
@@ -53,17 +53,18 @@ fn differing(name: &[u8], page: &[u8], n: usize, right: &[u8]) -> usize
             return 0;
         }
     }
-    show::differs(b"limits", name);
+    show::differs(rt, b"limits", name);
     1
 }
 
 // Two letters, and the `||`.
-fn wires_64(page: &mut [u8]) -> usize
+fn wires_64(rt: &impl Print, page: &mut [u8]) -> usize
     ensures { result ≤ 1 }
 {
     let n = put_each(page, 0, b"input w#; ", 0, 64);
     let n = put(page, n, b"p -> w63 & !w0 || w0 & !w63; monitor p;");
     differing(
+        rt,
         b"wires-64",
         page,
         n,
@@ -72,12 +73,12 @@ fn wires_64(page: &mut [u8]) -> usize
 }
 
 // The name w64: 10 statements of 10 bytes, 54 of 11 and `input ` stand before it.
-fn wires_65(page: &mut [u8]) -> usize
+fn wires_65(rt: &impl Print, page: &mut [u8]) -> usize
     ensures { result ≤ 1 }
 {
     let n = put_each(page, 0, b"input w#; ", 0, 65);
     let n = put(page, n, b"p -> w0; monitor p;");
-    differing(b"wires-65", page, n, b"refused 6 700\n")
+    differing(rt, b"wires-65", page, n, b"refused 6 700\n")
 }
 
 // p0 has one letter, each production after it twice those of the one before: p100 has 2^100.
@@ -87,30 +88,31 @@ fn put_doublings(page: &mut [u8]) -> usize {
 }
 
 // Monitor 0 passes the limit.
-fn doublings(page: &mut [u8]) -> usize
+fn doublings(rt: &impl Print, page: &mut [u8]) -> usize
     ensures { result ≤ 1 }
 {
     let n = put_doublings(page);
     let n = put(page, n, b"monitor p100;");
-    differing(b"doublings", page, n, b"refused 8 0 0\n")
+    differing(rt, b"doublings", page, n, b"refused 8 0 0\n")
 }
 
 // Monitor 0 has 8 letters, monitor 1 passes the limit.
-fn doublings_second(page: &mut [u8]) -> usize
+fn doublings_second(rt: &impl Print, page: &mut [u8]) -> usize
     ensures { result ≤ 1 }
 {
     let n = put_doublings(page);
     let n = put(page, n, b"monitor p3, p100, p99;");
-    differing(b"doublings-second", page, n, b"refused 8 1 0\n")
+    differing(rt, b"doublings-second", page, n, b"refused 8 1 0\n")
 }
 
 // No monitor has the many letters: `a, a` with its `,` and `a`.
-fn doublings_unused(page: &mut [u8]) -> usize
+fn doublings_unused(rt: &impl Print, page: &mut [u8]) -> usize
     ensures { result ≤ 1 }
 {
     let n = put_doublings(page);
     let n = put(page, n, b"monitor p1, p0;");
     differing(
+        rt,
         b"doublings-unused",
         page,
         n,
@@ -119,7 +121,7 @@ fn doublings_unused(page: &mut [u8]) -> usize
 }
 
 // 120 productions, each the one before in 32 parentheses, which have no rows: one letter.
-fn chain(page: &mut [u8]) -> usize
+fn chain(rt: &impl Print, page: &mut [u8]) -> usize
     ensures { result ≤ 1 }
 {
     let n = put(page, 0, b"input a; p0->a;");
@@ -132,6 +134,7 @@ fn chain(page: &mut [u8]) -> usize
     );
     let n = put(page, n, b"monitor p120;");
     differing(
+        rt,
         b"chain",
         page,
         n,
@@ -140,7 +143,7 @@ fn chain(page: &mut [u8]) -> usize
 }
 
 // 256 letters, 255 stars, 255 commas.
-fn starred(page: &mut [u8]) -> usize
+fn starred(rt: &impl Print, page: &mut [u8]) -> usize
     ensures { result ≤ 1 }
 {
     let n = put(page, 0, b"input D[7:0]; p -> ");
@@ -153,46 +156,46 @@ fn starred(page: &mut [u8]) -> usize
     if 4096 < m {
         return 1;
     }
-    differing(b"starred", page, n, &right[0..m])
+    differing(rt, b"starred", page, n, &right[0..m])
 }
 
 // 255 starred letters and nothing else: a hollow monitor.
-fn starred_alone(page: &mut [u8]) -> usize
+fn starred_alone(rt: &impl Print, page: &mut [u8]) -> usize
     ensures { result ≤ 1 }
 {
     let n = put(page, 0, b"input D[7:0]; p -> ");
     let n = put_each(page, n, b"D==#*,", 1, 255);
     let n = put(page, n, b"D==255*; monitor p;");
-    differing(b"starred-alone", page, n, b"refused 10 0 0\n")
+    differing(rt, b"starred-alone", page, n, b"refused 10 0 0\n")
 }
 
 // How many texts there are.
 const TEXTS: usize = 8;
 
 // What the text of that number gives.
-fn differing_at(i: usize, page: &mut [u8]) -> usize
+fn differing_at(rt: &impl Print, i: usize, page: &mut [u8]) -> usize
     ensures { result ≤ 1 }
 {
     match i {
-        0 => wires_64(page),
-        1 => wires_65(page),
-        2 => doublings(page),
-        3 => doublings_second(page),
-        4 => doublings_unused(page),
-        5 => chain(page),
-        6 => starred(page),
-        _ => starred_alone(page),
+        0 => wires_64(rt, page),
+        1 => wires_65(rt, page),
+        2 => doublings(rt, page),
+        3 => doublings_second(rt, page),
+        4 => doublings_unused(rt, page),
+        5 => chain(rt, page),
+        6 => starred(rt, page),
+        _ => starred_alone(rt, page),
     }
 }
 
 // Makes every text, compares its sheet, and prints the tally.
-pub fn run() {
+pub fn run(rt: &impl Print) {
     let mut page = [0u8; 16384];
     let mut differ = 0;
     let mut i = 0;
     while i < TEXTS {
-        differ += differing_at(i, &mut page);
+        differ += differing_at(rt, i, &mut page);
         i += 1;
     }
-    show::tally(b"limits", TEXTS, differ);
+    show::tally(rt, b"limits", TEXTS, differ);
 }

@@ -1,20 +1,35 @@
 // Prints the sheet of every shipped case, and of texts at the limits, and compares it with the right one. Started with an
 // argument, it answers the cases that come on standard input instead.
+#![tactic(auto)]
+
 mod batch;
 mod calls;
 mod cases;
+mod input;
 mod limits;
 mod page;
 mod sheets;
 mod show;
 
-fn main() {
-    if 1 < os::arg_count() {
-        batch::run();
+use std::env::FillError;
+use std::rt::Env;
+
+// Whether the program was started with an argument, however long it is.
+fn has_argument(rt: &impl Env) -> bool {
+    match rt.arg(1, &mut []) {
+        Ok(_) | Err(FillError::TooLong) => true,
+        Err(FillError::NotPresent) => false,
+    }
+}
+
+fn main(rt: HostRuntime) {
+    let errors = rt.stderr();
+    if has_argument(&rt) {
+        batch::run(&rt, &errors);
         return;
     }
-    cases::run(b"edge.bin");
-    cases::run(b"boundary.bin");
-    cases::run(b"random.bin");
-    limits::run();
+    cases::run(&rt, &errors, "edge.bin");
+    cases::run(&rt, &errors, "boundary.bin");
+    cases::run(&rt, &errors, "random.bin");
+    limits::run(&rt);
 }

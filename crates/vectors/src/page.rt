@@ -1,5 +1,6 @@
 // Text written into a lent page: each function takes the place to write at and answers with the place after. What does not
 // fit is left out.
+use itoa::Buffer;
 
 pub fn put_byte(page: &mut [u8], at: usize, byte: u8) -> usize {
     if page.len() <= at {
@@ -20,7 +21,6 @@ pub fn put(page: &mut [u8], at: usize, bytes: &[u8]) -> usize {
 }
 
 pub fn put_number(page: &mut [u8], at: usize, n: u64) -> usize {
-    let mut digits = [0u8; 20];
-    let k = io::decimal(n, &mut digits);
-    put(page, at, &digits[..k])
+    let mut digits = Buffer::new();
+    put(page, at, digits.format(n).as_bytes())
 }

@@ -1,8 +1,6 @@
 -- `linewatch::keep` is safe and ends: `i` goes up to the count of bytes kept.
 -- Assumes nothing.
-use mathlib.Core.Path.{◌≡◌}
-use Prim.Native.Nat.{◌-◌}
-use lib.ListN.{length}
+use Rattle.std.proofs.Common.{◌-◌, ◌≡◌, length}
 use Rattle.linewatch.proofs.keep.Given as goal
 
 abbrev pub invariant-loop-i : goal.invariant-loop-i

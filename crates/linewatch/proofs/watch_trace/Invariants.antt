@@ -1,12 +1,10 @@
 -- `linewatch::watch_trace` is safe and ends: there are at most 10,000,000 reads.
 -- Assumes nothing.
-use mathlib.Core.Path.{◌≡◌}
-use Prim.Native.Nat.{◌-◌}
-use lib.ListN.{length}
+use Rattle.std.proofs.Common.{◌-◌, ◌≡◌, length}
 use Rattle.linewatch.proofs.watch_trace.Given as goal
 
 abbrev pub invariant-loop-reads : goal.invariant-loop-reads
-invariant-loop-reads l = (4096 ≡ length l.buffer) × (139264 ≡ length l.out)
+invariant-loop-reads g l = (4096 ≡ length l.buffer) × (139264 ≡ length l.out)
 
 abbrev pub decreases-loop-reads : goal.decreases-loop-reads
-decreases-loop-reads l = 10000000 - l.reads
+decreases-loop-reads g l = 10000000 - l.reads

@@ -5,7 +5,7 @@ use lib.ListN.{length}
 use Rattle.vectors.proofs.cases.walk.Given as goal
 
 abbrev pub invariant-loop-at : goal.invariant-loop-at
-invariant-loop-at l = (l.differ ≤ l.cases) × (l.cases ≤ l.at)
+invariant-loop-at g l = (l.differ ≤ l.cases) × (l.cases ≤ l.at)
 
 abbrev pub decreases-loop-at : goal.decreases-loop-at
-decreases-loop-at l = length l.file - l.at
+decreases-loop-at g l = length l.file - l.at

@@ -6,7 +6,7 @@ use lib.ListN.{length}
 use Rattle.vectors.proofs.limits.run.Given as goal
 
 abbrev pub invariant-loop-i : goal.invariant-loop-i
-invariant-loop-i l = (length l.differ ≡ length l.initial.page) × (l.i ≤ i)
+invariant-loop-i g l = (length l.page ≡ length l.initial.page) × (l.differ ≤ l.i)
 
 abbrev pub decreases-loop-i : goal.decreases-loop-i
-decreases-loop-i l = 8 - i
+decreases-loop-i g l = 8 - l.i
