@@ -18,6 +18,7 @@ TOKEN = re.compile(r"[A-Za-z_][A-Za-z0-9_'₀-₉-]*")
 # beside the expectation that it stands for, one of the grammar beside the meaning that it declares. A lemma that would have the name
 # of a definition ends in `_lem`.
 WORDED = {
+    "is-star": "is_star",
     "limit-most": "most_of_limit", "limit-window": "window_of_limit", "bit-index": "index_of_bit", "new-input": "name_of_input",
     "new-store": "name_of_store", "new-define": "name_of_define", "new-production": "name_of_production", "of-production": "by_production",
     "an-input": "declares_input", "a-store": "declares_store", "a-define": "declares_define", "a-production": "declares_production",
@@ -28,7 +29,7 @@ WITHIN = (
     "forkAt", "walkAt", "recordOf", "leaveVisits", "verdictReply", "shiftEntered", "judgedMonitors", "traceRead", "endsOpen", "placeUnder",
     "askVisits", "beforeThreads", "leaveTo-right", "enterOn-right", "goesOn-both", "goAll-shifted", "bothRuns", "roundRuns", "rowsIn-two",
     "anyRun", "isOne", "sidesAt", "leftWord", "rightWord", "bodyWord", "writeMet-shifted", "eitherRuns", "lettersPlace", "writeMet-renumbered",
-    "branchRuns", "anyIdle", "is-star",
+    "branchRuns", "anyIdle",
 )
 LEMMAS = ("clean_line", "codes_all", "goes_on", "is_name", "met_at", "moved_by", "one_more", "past_the_end", "rows_in", "too_long", "too_many")
 
@@ -100,6 +101,8 @@ def main():
         new = WORDED.get(name) or new_name(name, kind)
         if new != name:
             renames[name] = new
+    for name, new in WORDED.items():
+        renames.setdefault(name, new)
     for name in WITHIN:
         renames.setdefault(name, new_name(name, "lemma"))
     for name, new in sorted(renames.items()):

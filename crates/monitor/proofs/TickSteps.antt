@@ -158,11 +158,11 @@ module _ (g : Given) (P K : List ℕ) (to i : ℕ) (M : List ℕ) where
 
 -- where a monitor's letters end
 module _ (m l i x r : ℕ) where
-  pub ends-before : i < 31 → i + 1 < m → r ≡ min x 256 → (r ≡ cond (ltb (suc i) (min m 32)) (min x 256) (min l 256)) × (r ≤ 256)
-  ends-before g h e = (e ∙ sym (taken (ltb (suc i) (min m 32)) (min x 256) (min l 256) (lt-ltb (suc i) (min m 32) (omega arith))), omega (arith, e))
+  pub end-before : i < 31 → i + 1 < m → r ≡ min x 256 → (r ≡ cond (ltb (suc i) (min m 32)) (min x 256) (min l 256)) × (r ≤ 256)
+  end-before g h e = (e ∙ sym (taken (ltb (suc i) (min m 32)) (min x 256) (min l 256) (lt-ltb (suc i) (min m 32) (omega arith))), omega (arith, e))
 
-  pub ends_last : min m 32 ≤ i + 1 → r ≡ min l 256 → (r ≡ cond (ltb (suc i) (min m 32)) (min x 256) (min l 256)) × (r ≤ 256)
-  ends_last h e = (e ∙ sym (left (ltb (suc i) (min m 32)) (min x 256) (min l 256) (le-ltb (suc i) (min m 32) (omega arith))), omega (arith, e))
+  pub end_last : min m 32 ≤ i + 1 → r ≡ min l 256 → (r ≡ cond (ltb (suc i) (min m 32)) (min x 256) (min l 256)) × (r ≤ 256)
+  end_last h e = (e ∙ sym (left (ltb (suc i) (min m 32)) (min x 256) (min l 256) (le-ltb (suc i) (min m 32) (omega arith))), omega (arith, e))
 
   -- x is the first letter of the next one, j
   pub ends_by : (F : List ℕ) (j : ℕ) → j ≡ min i 30 + 1 → x ≡ get_or F j 0 → r ≡ cond (ltb (suc i) (min m 32)) (min x 256) (min l 256) → r ≡ letters_end F (min m 32) (min l 256) i
@@ -174,6 +174,15 @@ module _ (m l i x r : ℕ) where
           let n : j ≡ suc i = omega (arith, q, s) in
           ap (λ (k : ℕ). min k 256) (d ∙ ap (λ (k : ℕ). get_or F k 0) n)
       by false h = refl
+
+-- the same by the first letters of all
+pub ends-before : (F : List ℕ) (m l i r x : ℕ) → i < 31 → i + 1 < m → x ≡ get_or F (i + 1) 0 → r ≡ min x 256 → (r ≡ letters_end F (min m 32) l i) × (r ≤ 256)
+ends-before F m l i r x g h d e =
+    let s : i + 1 ≡ suc i = omega arith in
+    (e ∙ ap (λ (n : ℕ). min n 256) (d ∙ ap (λ (j : ℕ). get_or F j 0) s) ∙ sym (taken (ltb (suc i) (min m 32)) (min (get_or F (suc i) 0) 256) l (lt-ltb (suc i) (min m 32) (omega arith))), omega (arith, e))
+
+pub ends_last : (F : List ℕ) (m l i r : ℕ) → min m 32 ≤ i + 1 → r ≡ min l 256 → (r ≡ letters_end F (min m 32) (min l 256) i) × (r ≤ 256)
+ends_last F m l i r h e = (e ∙ sym (left (ltb (suc i) (min m 32)) (min (get_or F (suc i) 0) 256) (min l 256) (le-ltb (suc i) (min m 32) (omega arith))), omega (arith, e))
 
 module _ (g : Given) (y : Layout) (K : List ℕ) (i : ℕ) (M : List ℕ) where
   abbrev then-letters : List ℕ → Told
@@ -334,23 +343,38 @@ abbrev pub tick_from : Watch → Moving → ℕ → Stepped
 tick_from v s w = tick_of (given_of v s.values (w ∷ s.last ∷ [])) (layout_of v) s.marks v.counted s.windows
 
 module _ (v : Watch) (t : List (List ℕ)) (F : List ℕ) (e : t ≡ tables_of v) (y : LaidOut v F) where
-  pub lent-step : (s : Moving) (w : ℕ) (a : Stepped) → a ≡ tick_of (given t s.values (w ∷ s.last ∷ [])) (layout_in F) s.marks (counted_in F) s.windows → a ≡ tick_from v s w
-  lent-step s w a d =
+  pub laid-step : (s : Moving) (w : ℕ) (a : Stepped) → a ≡ tick_of (given t s.values (w ∷ s.last ∷ [])) (layout_in F) s.marks (counted_in F) s.windows → a ≡ tick_from v s w
+  laid-step s w a d =
       d ∙ ap₂ (λ (u : List (List ℕ)) (z : Layout). tick_of (given u s.values (w ∷ s.last ∷ [])) z s.marks (counted_in F) s.windows) e y.1
       ∙ ap (λ (C : List ℕ). tick_of (given_of v s.values (w ∷ s.last ∷ [])) (layout_of v) s.marks C s.windows) y.2
 
-  pub lent-peek : (s : Moving) (w a : ℕ) → a ≡ answer_at (given t s.values (w ∷ s.last ∷ [])) (layout_in F) s.marks (counted_in F) s.windows → a ≡ answer_from v s w
-  lent-peek s w a d =
+  pub laid-peek : (s : Moving) (w a : ℕ) → a ≡ answer_at (given t s.values (w ∷ s.last ∷ [])) (layout_in F) s.marks (counted_in F) s.windows → a ≡ answer_from v s w
+  laid-peek s w a d =
       d ∙ ap₂ (λ (u : List (List ℕ)) (z : Layout). answer_at (given u s.values (w ∷ s.last ∷ [])) z s.marks (counted_in F) s.windows) e y.1
       ∙ ap (λ (C : List ℕ). answer_at (given_of v s.values (w ∷ s.last ∷ [])) (layout_of v) s.marks C s.windows) y.2
 
   -- and so are the rows touched, by lent counts
-  pub lent-touched : (cs : List (List ℕ)) (n : ℕ) → cs ≡ counts_of v
+  pub laid-touched : (cs : List (List ℕ)) (n : ℕ) → cs ≡ counts_of v
       → n ≡ min (touched_of (counts (get_or t 0 []) cs (places_in F)) (own_in F) v.marks (get_or F 576 0) (get_or F 577 0)) 65535 → n ≡ touched_on v
   unfolding touched_on
-  lent-touched cs n f d =
+  laid-touched cs n f d =
       d ∙ ap (λ (z : Layout). min (touched_of (counts (get_or t 0 []) cs z.places) z.own v.marks z.monitors z.letters) 65535) y.1
       ∙ ap₂ (λ (u z : List (List ℕ)). min (touched_of (counts (get_or u 0 []) z v.places) v.own v.marks v.monitors v.letters) 65535) e f
+
+-- the same, with the arrays and numbers of the watch in place of the block
+pub lent-step : (v : Watch) (s : Moving) (w : ℕ) (t : List (List ℕ)) (a : Stepped) → t ≡ tables_of v
+    → a ≡ tick_of (given t s.values (w ∷ s.last ∷ [])) (layout_of v) s.marks v.counted s.windows → a ≡ tick_from v s w
+lent-step v s w t a e d = d ∙ ap (λ (u : List (List ℕ)). tick_of (given u s.values (w ∷ s.last ∷ [])) (layout_of v) s.marks v.counted s.windows) e
+
+pub lent-peek : (v : Watch) (s : Moving) (w : ℕ) (t : List (List ℕ)) (a : ℕ) → t ≡ tables_of v
+    → a ≡ answer_at (given t s.values (w ∷ s.last ∷ [])) (layout_of v) s.marks v.counted s.windows → a ≡ answer_from v s w
+lent-peek v s w t a e d = d ∙ ap (λ (u : List (List ℕ)). answer_at (given u s.values (w ∷ s.last ∷ [])) (layout_of v) s.marks v.counted s.windows) e
+
+pub lent-touched : (v : Watch) (t cs : List (List ℕ)) (n : ℕ) → t ≡ tables_of v → cs ≡ counts_of v
+    → n ≡ min (touched_of (counts (get_or t 0 []) cs v.places) v.own v.marks v.monitors v.letters) 65535 → n ≡ touched_on v
+unfolding touched_on
+lent-touched v t cs n e f d =
+    d ∙ ap₂ (λ (u z : List (List ℕ)). min (touched_of (counts (get_or u 0 []) z v.places) v.own v.marks v.monitors v.letters) 65535) e f
 
 -- its answer is that of a look; where it is bad it leaves all as it was, and else what moves on
 module _ (v : Watch) (s : Moving) (w a : ℕ) (K σ W : List ℕ) (t : stepped a K σ W ≡ tick_from v s w) where

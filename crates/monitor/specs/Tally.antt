@@ -16,7 +16,7 @@ counts_by t p c ls = record { table = t; places = p; costs = c; letters = ls }
 
 -- with places and costs as `counts` lays them out
 abbrev pub counts : (table : List ℕ) → (counts : List (List ℕ)) → (letters : List ℕ) → Counts
-counts t cs ls = counts_by t (get_or cs 0 []) (get_or cs 1 []) ls
+counts t cs ls = record { table = t; places = get_or cs 0 []; costs = get_or cs 1 []; letters = ls }
 
 -- how many touches are counted, and by key which threads are asked
 pub record Tallied : Type 0 where

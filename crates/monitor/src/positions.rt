@@ -12,7 +12,7 @@ use words::least;
 // 4 calls for each row are enough.
 const STEPS: usize = 4096;
 
-fn wide(x: u16) -> usize
+pub(crate) fn wide(x: u16) -> usize
     ensures { result ≡ x }
 {
     x as usize

@@ -23,7 +23,7 @@ use Rattle.windows.specs.Windows.{counted_in}
 use Rattle.monitor.specs.Letters.{given}
 use Rattle.monitor.specs.Ticks.{layout_in, count_met}
 use Rattle.monitor.specs.Limited.{is_bad, Stepped, stepped, tick_of}
-use Rattle.monitor.proofs.TickSteps.{tick_from, lent-step, tick-kept, ticked_to, take-refused, take-bad, take-ok, few-ticks, one-tick}
+use Rattle.monitor.proofs.TickSteps.{tick_from, laid-step, tick-kept, ticked_to, take-refused, take-bad, take-ok, few-ticks, one-tick}
 use Rattle.sheet.specs.Lines.{Run, run, Ran, ran, printing, on_reply, on_read, ok_line, bad_line, foot_of, run_on, run_over}
 use Rattle.sheet.specs.Items.{item_of}
 use Rattle.sheet.specs.declared.ticking.Item.{Item as CodeItem}
@@ -219,7 +219,7 @@ module _ {v₀ : Watch} {b₀ : ℕ} {records out₀ : List ℕ} {at : ℕ} {out
         module _ (q : k ≡ 0) (t : List (List ℕ)) (lent : t ≡ tables_of v) (F : List ℕ) (laid : LaidOut v F) (i : ℕ) (K σ W : List ℕ)
             (ticked : stepped i K σ W ≡ tick_of (given t v.values (w ∷ v.before ∷ [])) (layout_in F) v.marks (counted_in F) v.windows) (b : Bool) (f : b ≡ is_bad i) where
           s : stepped i K σ W ≡ tick_from v (state_of v).inner w
-          s = lent-step v t F lent laid (state_of v).inner w (stepped i K σ W) ticked
+          s = laid-step v t F lent laid (state_of v).inner w (stepped i K σ W) ticked
 
           -- the watch that a bad tick stops
           abbrev halted : (marks values windows : List ℕ) → Watch
