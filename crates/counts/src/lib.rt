@@ -1,5 +1,7 @@
 // How many rows asking and leaving each row touches, laid out once for many ticks (specs/Counts.antt). A thread has one letter met
 // at a time (F17), so what the letters met touch overlaps nowhere but with the start of their own thread, and can be added up.
+#![tactic(auto)]
+
 ghost use Rattle.std.specs.Prelude.{◌≡◌, cond, ◌&&◌, ◌+◌, ◌<◌, ◌≤◌, eqb};
 ghost use Rattle.words.specs.Words.{part0};
 ghost use Rattle.counts.specs.Counts.{cost, count_in, nullable_in, seq_cost, alt_cost, cost_of, row_cost, costs_down, begins_in, fresh, left_of_seq, right_of_seq, only_operand, body_of_star, operand_place, sibling, row_place, places_up, counts_of};

@@ -1,5 +1,7 @@
 // The tokens of a text (docs/REFERENCE.md, T). `token_at` reads the token at a position of a text in which some words are reserved.
 // What a token is stands in specs/Tokens.antt, and specs/Shown.antt says what the types here stand for in its terms.
+#![tactic(auto)]
+
 ghost use Rattle.std.specs.Prelude.{◌≡◌, ◌&&◌, ℕ, ◌+◌, ◌<◌, ◌≤◌, List, length, get_or, drop};
 ghost use Rattle.lexer.specs.Bytes.{same, lookup, run, is_digit, is_name_byte};
 ghost use Rattle.lexer.specs.Classes.{Listed, begins, class_of, in_classes};

@@ -1,6 +1,8 @@
 // A watch as words that a caller lends, for callers who go word by word: opening fills the words, a look reads them, and a take moves
 // the block of them that is the watch's state (specs/Calls.antt). Two groups of four blocks: the tables of a tick; its layout, what
 // leaving and what asking each row touches, and the state. What a call answers is one number (specs/Codes.antt).
+#![tactic(auto)]
+
 mod state;
 
 ghost use Rattle.std.specs.Prelude.{◌≡◌, [], ◌<◌, min, get_or};

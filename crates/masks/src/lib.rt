@@ -1,5 +1,7 @@
 // The wire literals of a letter as two words, the wires looked at and the values wanted there, and a third for the wires that
 // must be as before (specs/Masks.antt); and the test of a word against two of them (specs/Wires.antt).
+#![tactic(auto)]
+
 ghost use Rattle.std.specs.Prelude.{◌≡◌};
 ghost use Rattle.masks.specs.Masks.{compatible};
 ghost use Rattle.masks.specs.Wires.{passes};

@@ -8,7 +8,7 @@ use lib.ListN.{length, length-append}
 use Rattle.lexer.specs.Tokens.{Token}
 use Rattle.meaning.specs.Lists.{◌∈◌}
 use Rattle.meaning.specs.Answers.{value}
-use Rattle.meaning.specs.Names.{Limit, Names, no_names, Declaration, declare, Program}
+use Rattle.meaning.specs.Names.{Limit, Names, Declaration, declare, Program}
 use Rattle.meaning.specs.Grammar.{IsDeclaration, declares_input, declares_store, declares_define, declares_production, a_limit, IsText, declares, monitors}
 use Rattle.meaning.specs.Reading.{read}
 use Rattle.meaning.proofs.ListLaws.{no-∈, append-∈, one-∈}

@@ -12,14 +12,11 @@ use lib.Seq.{take-suc, take_all}
 use Rattle.lexer.proofs.Bools.{or-true, or-false}
 use Rattle.meaning.specs.Lists.{any, count, only}
 use Rattle.meaning.specs.Expression.{Exp}
-use Rattle.meaning.specs.ShapeTests.{AllRead}
 use Rattle.meaning.specs.Fit.{Verdict, ok as clean, bad as broken, History, start, onward, history}
 use Rattle.meaning.specs.Names.{Limit}
 use Rattle.meaning.specs.Limits.{judged}
 use Rattle.meaning.specs.Calls.{Call, look, take, word_of, Reply, ok, bad, refused, reply_of, most_ticks, is_full, is_stray, State, opening, reply, after, after_call, replies_from, state_from, replies, is_ok, is_bad, is_refused, taken, taken_replies, judged_words, Rightly, AllRightly}
 use Rattle.meaning.proofs.ListLaws.{carry-append, clash}
-use Rattle.meaning.proofs.Watch.{AllAccepted, Tracks, opened-tracks, same-verdict, same_move}
-use Rattle.meaning.proofs.Accept.{accept-all}
 
 -- ---- one reply ----
 

@@ -13,7 +13,7 @@ use borrow.Author.Tests.{ltb-true, ltb-false, leb-false}
 use lib.ListN.{length, get_or}
 use Rattle.meaning.specs.Lists.{◌∈◌, count, null}
 use Rattle.meaning.specs.Expression.{Letter, Exp, letter, seq, alt, star, pipe, letters, own}
-use Rattle.meaning.specs.Shape.{nullable, first, last, threads}
+use Rattle.meaning.specs.Shape.{nullable, last, threads}
 use Rattle.meaning.specs.Fit.{Tick, meets, Run, Rest, past_the_end, anything, merge, both, rounds, runs, branches, among, required, occupied, unoccupied, monitor, fits}
 use Rattle.meaning.specs.Positions.{has}
 use Rattle.meaning.proofs.ListLaws.{here, there, append-∈, ∈-left, ∈-right, map-∈, one-∈, only-∈, T_and, and_T, T-or-left, T-or-right, any-from, is_false, by-test, clash}

@@ -3,6 +3,8 @@
 // once what the ticks need; `refused_by`, `peek_in` or `step_in`, `is_bad`, `touched_in` and `count_met` are what a look or a take is made of.
 // What they answer is said for every watch, also one that no call ever gave (specs/Calls.antt, specs/Ticks.antt,
 // specs/Limited.antt).
+#![tactic(auto)]
+
 mod busy;
 mod layout;
 mod letters;

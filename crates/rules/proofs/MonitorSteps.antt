@@ -8,8 +8,7 @@ use borrow.Author.Tests.{le-leb, lt-leb}
 use lib.ListN.{length, set}
 use Rattle.lexer.specs.Tokens.{Token, Placed}
 use Rattle.meaning.specs.Expression.{Exp, Literal}
-use Rattle.meaning.specs.Answers.{value}
-use Rattle.meaning.specs.Reading.{by_kind, Step, finished, fault, not_here, known, no_pair, no_literals, monitor_name, monitor_more, text_end, at_end, step}
+use Rattle.meaning.specs.Reading.{by_kind, Step, finished, not_here, known, no_pair, no_literals, monitor_name, monitor_more, text_end, at_end, step}
 use Rattle.meaning.specs.Names.{Names, a_production, program_of}
 use Rattle.rules.specs.declared.tokens.Seen.{Seen}
 use Rattle.rules.specs.Seen.{seen, Sees, token_of}

@@ -11,7 +11,6 @@ use borrow.Author.Tests.{lt-ltb, le-ltb, ltb-true, ltb-false, eq-eqb, ne_eqb, eq
 use Rattle.lexer.specs.Tokens as token
 use Rattle.lexer.specs.Tokens.{Token, Placed, goes_on, token_at, rule_words}
 use Rattle.lexer.proofs.Sized.{lies}
-use Rattle.meaning.specs.Answers.{refused}
 use Rattle.meaning.specs.Reading.{Expect, sign, keyword, nought, Step, go, fault, is_sign, is, choose, unless, at_token, number_of, not_here, if_name, on_name, if_number, on_number, step, and_then, ordinal, is_word, spelling_of}
 use Rattle.meaning.specs.Names.{Names}
 use Rattle.meaning.proofs.Stops.{read-from}

@@ -10,7 +10,7 @@ use lib.Seq.{sets}
 use Rattle.lexer.specs.Tokens.{tokens, rule_words}
 use Rattle.meaning.specs.Answers as meaning
 use Rattle.meaning.specs.Lists.{each, total}
-use Rattle.meaning.specs.Expression.{Exp, letters, size, rows, renumbered}
+use Rattle.meaning.specs.Expression.{Exp, letters, size, renumbered}
 use Rattle.meaning.specs.Reading.{statement, read_on, read}
 use Rattle.meaning.specs.Names.{no_names}
 use Rattle.meaning.specs.Opening.{Opened, counts_of, as_opened, open_program, and_open, open_text}

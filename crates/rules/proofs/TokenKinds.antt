@@ -16,7 +16,6 @@ use Rattle.meaning.specs.Reading.{number_of}
 use Rattle.lexer.specs.Shown.{kind_shown, shown}
 use Rattle.lexer.specs.declared.Kind.{Kind}
 use Rattle.lexer.specs.declared.Kind.TheVariants as kind
-use Rattle.lexer.specs.declared.Word.{Word}
 use Rattle.lexer.specs.declared.Word.TheVariants.{Input, Internal, Define, Monitor, Past, Limit, To, In}
 use Rattle.rules.specs.Seen.{kind_of, value_of, token_of, fault_of, seen, Sees}
 

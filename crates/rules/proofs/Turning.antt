@@ -9,7 +9,7 @@ use lib.ListN.{length}
 use Rattle.lexer.specs.Tokens.{token_at, rule_words}
 use Rattle.meaning.specs.Expression.{Exp, star}
 use Rattle.meaning.specs.Answers.{refused, byte}
-use Rattle.meaning.specs.Reading.{Open, Level, new_level, on_level, is_none, sequenced, whole, behind_at, behind_comma, behind_bars, operand, operand_more, go, fault, step, is, choose, not_here, behind_operand, on_right_paren, on_semicolon}
+use Rattle.meaning.specs.Reading.{Open, Level, new_level, on_level, is_none, sequenced, whole, behind_at, behind_comma, behind_bars, operand, operand_more, go, step, is, choose, not_here, behind_operand, on_right_paren, on_semicolon}
 use Rattle.meaning.specs.Names.{Names}
 use Rattle.rules.specs.declared.tokens.Seen.{Seen}
 use Rattle.rules.specs.declared.parts.Part.{Part}

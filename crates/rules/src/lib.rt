@@ -1,4 +1,6 @@
 // Opening a rule text (docs/REFERENCE.md, G, N, S and W1). `open` takes every text.
+#![tactic(auto)]
+
 mod counted;
 mod declarations;
 mod definitions;

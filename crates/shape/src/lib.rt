@@ -1,4 +1,5 @@
 // Rules 11 (docs/REFERENCE.md, S12) and 12 (S13) for one monitor, on the rows of the table, each of which is a word. Its letters are asked 64 at a time, and each time its rows are walked once.
+#![tactic(auto)]
 
 ghost use Rattle.std.specs.Prelude.{◌≡◌};
 ghost use Rattle.shape.specs.Walk.{kinds, lefts, rights};

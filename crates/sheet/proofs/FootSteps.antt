@@ -1,13 +1,13 @@
 -- The foot of the sheet, by the code's loops. Assumes nothing.
 use mathlib.Core.Path.{◌≡◌, refl, sym, ◌∙◌, ap, ap₂}
 use mathlib.Core.List.{List, [], ◌∷◌, ◌++◌}
-use Prim.Native.Nat.{ℕ, zero, suc, ◌+◌, ◌-◌, ◌<◌, ◌≤◌, min}
+use Prim.Native.Nat.{ℕ, suc, ◌+◌, ◌-◌, ◌<◌, ◌≤◌, min}
 use native.Mathlib.Omega.{arith}
 use lib.ListN.{length, length-append, get_or}
 use lib.Seq.{sets, length-sets}
 use Rattle.meaning.specs.Lists.{total}
 use Rattle.meaning.specs.Totals.{sum}
-use Rattle.meaning.specs.Sheet.{met_line, met_lines, all_met_lines, total_line, foot}
+use Rattle.meaning.specs.Sheet.{met_line, met_lines, all_met_lines}
 use Rattle.monitor.specs.Ticks.{letters_end}
 use Rattle.monitor.specs.Calls.{stretch, totals_from, totals_in}
 use Rattle.rules.proofs.Overlay.{sets_behind}

@@ -1,5 +1,7 @@
 // The printed sheet: from a rule text and the records of a trace to the sheet's bytes in a lent range, for C too; and the same
 // in pieces, for traces longer than any buffer. What is printed is said by `meaning`'s specs/Sheet.antt.
+#![tactic(auto)]
+
 mod entries;
 mod foot;
 mod lines;

@@ -1,5 +1,6 @@
 // Wire records: words, one a tick, as a recorder leaves them. A record is a map byte and then the
 // bytes of the word that changed.
+#![tactic(auto)]
 
 mod record;
 mod whole;

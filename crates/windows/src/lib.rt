@@ -1,5 +1,7 @@
 // The windows of a rule text's limits, 8 at most, in one array: on how many of its last ticks a letter of each limit was met
 // (specs/Windows.antt). A tick is one number, the mask, whose bit k says whether a letter of limit k was met there.
+#![tactic(auto)]
+
 ghost use Rattle.std.specs.Prelude.{◌≡◌, ◌<◌, min, if◌then◌else◌, nat_eq, slice_index};
 ghost use Rattle.windows.specs.Windows.{limits_at, bit_of, counted_in, met_mask, next_count, first_beyond, counted, passed, opened_windows};
 

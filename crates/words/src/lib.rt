@@ -1,5 +1,7 @@
 // Words of four numbers below 65,536 (specs/Words.antt). Rows, links and cells are kept in them. And two functions for all that goes
 // over tables of words: the word at an index, and the smaller of two numbers.
+#![tactic(auto)]
+
 ghost use Rattle.std.specs.Prelude.{◌≡◌, min, get_or};
 ghost use Rattle.words.specs.Words.{quad, part0, part1, part2, part3};
 

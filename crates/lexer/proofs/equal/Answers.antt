@@ -1,5 +1,4 @@
 use mathlib.Core.Path.{refl, sym}
-use Prim.Native.Nat.{◌-◌}
 use borrow.Author.Rules.{rules}
 use Rattle.lexer.proofs.Spelling.{same-lengths, same-goes, same-stops, same_ends}
 use Rattle.lexer.proofs.equal.Goals as goal

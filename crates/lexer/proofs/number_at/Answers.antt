@@ -1,8 +1,5 @@
-use mathlib.Core.Path.{◌≡◌, ◌∙◌}
-use mathlib.Core.Bool.{true}
-use Prim.Native.Nat.{◌-◌}
+use mathlib.Core.Path.{◌∙◌}
 use native.Mathlib.Omega.{arith}
-use lib.ListN.{get_or}
 use Rattle.lexer.specs.Bytes.{is_digit}
 use Rattle.lexer.proofs.Runs.{run-stops, run_past}
 use Rattle.lexer.proofs.ByteClass.{digit-class, no-digit-class, digit-range}

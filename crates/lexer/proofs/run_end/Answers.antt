@@ -1,5 +1,4 @@
 use mathlib.Core.Path.{refl}
-use Prim.Native.Nat.{◌-◌}
 use borrow.Author.Rules.{rules}
 use Rattle.lexer.proofs.Runs.{run_ends, run-goes, run-stops, run_past}
 use Rattle.lexer.proofs.ByteClass.{below-classes, above-classes, within-classes}

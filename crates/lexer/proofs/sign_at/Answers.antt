@@ -1,9 +1,7 @@
 -- `lexer::sign_at` meets its contract.
 -- Assumes nothing.
 use mathlib.Core.Path.{sym, ◌∙◌}
-use Prim.Native.Nat.{◌<◌}
 use native.Mathlib.Omega.{arith}
-use lib.ListN.{get_or}
 use Rattle.lexer.proofs.Signs.{sign-none, sign-single, sign-bound, sign_pair, sign-equals, sign-broken}
 use Rattle.lexer.proofs.sign_at.Goals as goal
 

@@ -3,7 +3,7 @@ use mathlib.Core.Path.{◌≡◌, refl, ◌∙◌, ap}
 use mathlib.Core.List.{List}
 use lib.ListN.{replicate, set}
 use Rattle.rules.proofs.Starting.{marks-more}
-use Prim.Native.Nat.{ℕ, ◌+◌, ◌-◌}
+use Prim.Native.Nat.{ℕ, ◌+◌}
 use Rattle.rules.proofs.start_marks.Goals as goal
 
 pub loop-i-init : goal.loop-i-init

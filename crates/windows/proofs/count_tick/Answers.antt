@@ -1,4 +1,4 @@
-use Rattle.std.proofs.Common.{◌≡◌, ◌-◌, refl, ap, ◌∙◌, arith}
+use Rattle.std.proofs.Common.{◌≡◌, refl, ap, ◌∙◌, arith}
 use Rattle.windows.proofs.Steps.{limits-right, counted-more}
 use Rattle.windows.specs.Windows.{counted, limits_in}
 use Rattle.windows.proofs.count_tick.Goals as goal

@@ -1,4 +1,4 @@
-use Rattle.std.proofs.Common.{◌-◌, sym, ◌∙◌, arith}
+use Rattle.std.proofs.Common.{sym, ◌∙◌, arith}
 use Rattle.windows.proofs.Steps.{limits-right, beyond-first, beyond-none, beyond-here, beyond-later}
 use Rattle.windows.proofs.first_beyond.Goals as goal
 

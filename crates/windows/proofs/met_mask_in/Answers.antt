@@ -1,4 +1,4 @@
-use Rattle.std.proofs.Common.{◌≡◌, ℕ, ◌+◌, ◌-◌, min, cond, eqb, get_or, refl, ap, ◌∙◌, arith}
+use Rattle.std.proofs.Common.{◌≡◌, ℕ, ◌+◌, min, cond, eqb, get_or, refl, ap, ◌∙◌, arith}
 use Rattle.windows.proofs.Steps.{counted-at, met-more}
 use Rattle.windows.specs.Windows.{counted_in, met_mask}
 use Rattle.windows.proofs.met_mask_in.Goals as goal

@@ -1,4 +1,4 @@
-use Rattle.std.proofs.Common.{◌≡◌, ◌-◌, refl, ap, ◌∙◌, arith}
+use Rattle.std.proofs.Common.{◌≡◌, refl, ap, ◌∙◌, arith}
 use Rattle.windows.proofs.Steps.{back-right, limited-more, opened-right}
 use Rattle.windows.specs.Windows.{limited}
 use Rattle.windows.proofs.windows_of.Goals as goal

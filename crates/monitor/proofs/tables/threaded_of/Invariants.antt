@@ -1,6 +1,6 @@
 -- `monitor::tables::threaded_of` meets its contract.
 -- Assumes nothing.
-use Prim.Native.Nat.{◌-◌, ◌≤◌}
+use Prim.Native.Nat.{◌≤◌}
 use mathlib.Core.Path.{◌≡◌}
 use Rattle.monitor.specs.Calls.{threaded_of}
 use Rattle.monitor.proofs.tables.threaded_of.Given as goal

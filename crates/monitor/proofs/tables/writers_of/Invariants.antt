@@ -1,6 +1,6 @@
 -- `monitor::tables::writers_of` meets its contract.
 -- Assumes nothing.
-use Prim.Native.Nat.{◌-◌, ◌≤◌}
+use Prim.Native.Nat.{◌≤◌}
 use mathlib.Core.Path.{◌≡◌}
 use Rattle.monitor.specs.Calls.{writers_of}
 use Rattle.monitor.proofs.tables.writers_of.Given as goal

@@ -1,5 +1,4 @@
 use mathlib.Core.List.{[]}
-use Prim.Native.Nat.{◌-◌}
 use native.Mathlib.Omega.{arith}
 use Rattle.monitor.specs.Ticks.{own_in}
 use Rattle.monitor.specs.Tally.{counts_by}

@@ -1,6 +1,5 @@
 use native.Mathlib.Omega.{arith}
 use borrow.Author.Rules.{rules}
-use Prim.Native.Nat.{◌-◌}
 use Rattle.rules.specs.Counted.{limit_words}
 use Rattle.rules.proofs.Counting.{counting-start, counting-end, next-cell, next-letters, counting-next}
 use Rattle.rules.proofs.counted.counted_letters.Goals as goal

@@ -1,6 +1,6 @@
 -- `rules::counted::mask_of` meets its contract.
 -- Assumes nothing.
-use Prim.Native.Nat.{◌-◌, ◌≤◌}
+use Prim.Native.Nat.{◌≤◌}
 use Rattle.rules.proofs.Counting.{MaskFrom}
 use Rattle.rules.proofs.counted.mask_of.Given as goal
 

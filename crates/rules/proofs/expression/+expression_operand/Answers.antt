@@ -3,7 +3,7 @@
 use native.Mathlib.Omega.{arith}
 use borrow.Author.Tests.{not-true, not-false}
 use Rattle.rules.proofs.Stepping.{since, inside-text}
-use Rattle.rules.proofs.Expressing.{named-on, operand-simple, operand-deep, inner-given, operand-fails, operand-closed, Loop, loop-start, operand-given, whole-fails, star-given, turn-given, loop-long, loop-on, whole-ends}
+use Rattle.rules.proofs.Expressing.{named-on, operand-simple, operand-deep, inner-given, operand-fails, operand-closed, loop-start, operand-given, whole-fails, star-given, turn-given, loop-long, loop-on, whole-ends}
 use Rattle.rules.proofs.expression.+expression_operand.Goals as goal
 
 pub expression-loop-level-init : goal.expression-loop-level-init

@@ -1,8 +1,5 @@
 use native.Mathlib.Omega.{arith}
 use mathlib.Core.Path.{refl, sym, ◌∙◌}
-use mathlib.Core.Bool.{Bool, true}
-use mathlib.Core.List.{List}
-use Prim.Native.Nat.{ℕ}
 use Rattle.rules.proofs.Placing.{below-start, below-inside, below-falls, below_next, below_end}
 use Rattle.rules.proofs.lay.unnamed.Invariants.{all}
 use Rattle.rules.proofs.lay.unnamed.Goals as goal

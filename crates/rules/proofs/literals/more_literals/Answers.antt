@@ -1,6 +1,5 @@
 use native.Mathlib.Omega.{arith}
 use mathlib.Core.Path.{refl}
-use Prim.Native.Nat.{◌-◌}
 use Rattle.rules.specs.Reads.{fine}
 use Rattle.rules.proofs.Stepping.{well, past, no-sign-at}
 use Rattle.rules.proofs.LiteralSteps.{given-next, added_none, added_next}

@@ -1,6 +1,5 @@
 use native.Mathlib.Omega.{arith}
 use borrow.Author.Rules.{rules}
-use Prim.Native.Nat.{◌-◌}
 use Rattle.rules.proofs.LongRun.{summed-start, next-cell, summed-end, over, summed-next}
 use Rattle.rules.proofs.opening.first_long.Goals as goal
 

@@ -1,7 +1,6 @@
 use native.Mathlib.Omega.{arith}
 use borrow.Author.Rules.{rules}
 use mathlib.Core.Path.{refl}
-use Prim.Native.Nat.{◌-◌}
 use lib.ListN.{length-set}
 use Rattle.rules.proofs.OneMonitor.{cell-inside}
 use Rattle.rules.proofs.AllMonitors.{going_start, small, going_end, some_next, going-refused, going_next}

@@ -1,5 +1,4 @@
 use mathlib.Core.Path.{refl, ◌∙◌}
-use Prim.Native.Nat.{◌-◌}
 use Rattle.rules.proofs.MonitorSteps.{so-none, so-refused, so-ends, so-stops, so-less, so-next}
 use Rattle.rules.proofs.statements.all_monitors.Goals as goal
 

@@ -1,5 +1,4 @@
 use mathlib.Core.Path.{refl, ◌∙◌}
-use Prim.Native.Nat.{◌-◌}
 use Rattle.rules.specs.Reads.{fine, faulted}
 use Rattle.rules.proofs.StatementSteps.{declared-none, declared-ready, declared-monitor, declared-refused, declared-next, declared-less}
 use Rattle.rules.proofs.statements.statements.Goals as goal

@@ -1,6 +1,5 @@
 use native.Mathlib.Omega.{arith}
 use mathlib.Core.Path.{refl}
-use Prim.Native.Nat.{◌-◌}
 use Rattle.rules.proofs.Stepping.{well, since, inside-text}
 use Rattle.rules.proofs.WriteSteps.{so-none, so-given, so-closed, so-next, fails-too}
 use Rattle.rules.proofs.writes.more_writes.Goals as goal

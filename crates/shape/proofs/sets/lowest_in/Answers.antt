@@ -1,5 +1,4 @@
 use mathlib.Core.Path.{refl, sym, ◌∙◌}
-use Prim.Native.Nat.{◌-◌}
 use native.Mathlib.Omega.{arith}
 use Rattle.shape.proofs.Lowest.{lowest-here, lowest-next, lowest-end}
 use Rattle.shape.proofs.Bits.{rest_all, rest_has, rest-lacks, rest-next}

@@ -1,5 +1,4 @@
 use mathlib.Core.Path.{refl, sym, ◌∙◌}
-use Prim.Native.Nat.{◌-◌}
 use Rattle.shape.proofs.Lowest.{lowest-end}
 use Rattle.shape.proofs.Blocks.{block_here, block-next}
 use Rattle.shape.proofs.sides.lowest_fork.Goals as goal

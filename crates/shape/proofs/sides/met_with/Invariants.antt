@@ -1,6 +1,6 @@
 -- `shape::sides::met_with` meets its contract. The loop's invariant: the set has what it should of the letters from `i` on.
 -- Assumes nothing.
-use Prim.Native.Nat.{◌-◌, ◌≤◌, ◌<◌}
+use Prim.Native.Nat.{◌≤◌, ◌<◌}
 use Rattle.shape.specs.Sets.{Passing}
 use Rattle.shape.specs.Sides.{rivals}
 use Rattle.shape.proofs.sides.met_with.Given as goal

@@ -1,7 +1,6 @@
-use Prim.Native.Nat.{ℕ, ◌-◌}
+use Prim.Native.Nat.{ℕ}
 use lib.ListN.{length-set, length-replicate}
 use native.Mathlib.Omega.{arith}
-use Rattle.sheet.specs.Digits.{pair_of}
 use Rattle.sheet.proofs.PageSteps.{pairs-more}
 use Rattle.sheet.proofs.page.pairs.Goals as goal
 

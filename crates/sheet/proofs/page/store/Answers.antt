@@ -1,4 +1,4 @@
-use Prim.Native.Nat.{ℕ, ◌-◌, ◌+◌}
+use Prim.Native.Nat.{ℕ, ◌+◌}
 use lib.ListN.{length-set}
 use lib.Seq.{sets}
 use mathlib.Core.Path.{◌≡◌, refl, ap}

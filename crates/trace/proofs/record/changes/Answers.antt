@@ -1,5 +1,5 @@
 use mathlib.Core.Path.{sym, ◌∙◌, subst, refl}
-use Prim.Native.Nat.{◌-◌, ◌<◌}
+use Prim.Native.Nat.{◌<◌}
 use native.Mathlib.Omega.{arith}
 use Rattle.trace.proofs.Writing.{changing-none, changing-differs, changing-same, changing-done, changes-lt}
 use Rattle.trace.proofs.record.changes.Goals as goal
@@ -18,7 +18,7 @@ pub loop-i-preserved : goal.loop-i-preserved
 loop-i-preserved c =
     let m = c.loop-i.invariant in
     elim c.if-byte.branch [
-      then-byte w ↦ changing-differs _ _ _ _ m (omega arith) _ (λ h. w.if-byte.true (c.byte.ensures ∙ h ∙ sym c.byte-in-loop-i.ensures)) w.map-is
+      | then-byte w ↦ changing-differs _ _ _ _ m (omega arith) _ (λ h. w.if-byte.true (c.byte.ensures ∙ h ∙ sym c.byte-in-loop-i.ensures)) w.map-is
       | else-byte w ↦ changing-same _ _ _ _ m (omega arith) _ (sym c.byte.ensures ∙ w.if-byte.false ∙ c.byte-in-loop-i.ensures) w.map-is
     ]
 

@@ -1,5 +1,5 @@
 use mathlib.Core.Path.{sym, ◌∙◌, subst}
-use Prim.Native.Nat.{◌-◌, ◌+◌, ◌^◌, ◌<◌}
+use Prim.Native.Nat.{◌+◌, ◌^◌, ◌<◌}
 use native.Mathlib.Omega.{arith}
 use Rattle.trace.proofs.Merge.{Merging, merging-none, merging-given, merging-kept, merging-idle, merging-done, at-below, merged-lt}
 use Rattle.trace.proofs.record.merge.Goals as goal
@@ -29,10 +29,10 @@ joined : (c : goal.After-at_place-word)
 joined c =
     let m = c.loop-i.invariant in
     elim c.if-bit-eq1.branch [
-      then-bit-eq1+else-new-old w ↦ merging-given _ _ _ _ _ _ m (omega arith) _ _ _ (sym c.bit.ensures ∙ w.if-bit-eq1.true) w.new-is
-        (λ h. w.if-new-old.false (sym w.new-is ∙ h ∙ sym c.byte-old.ensures)) c.at_place-word.ensures w.at-is
+      | then-bit-eq1+else-new-old w ↦ merging-given _ _ _ _ _ _ m (omega arith) _ _ _ (sym c.bit.ensures ∙ w.if-bit-eq1.true) w.new-is
+          (λ h. w.if-new-old.false (sym w.new-is ∙ h ∙ sym c.byte-old.ensures)) c.at_place-word.ensures w.at-is
       | else-bit-eq1 w ↦ merging-kept _ _ _ _ _ _ m (omega arith) _ _ _ (λ h. w.if-bit-eq1.false (c.bit.ensures ∙ h))
-        (w.new-is ∙ c.byte-old.ensures) c.at_place-word.ensures w.at-is
+          (w.new-is ∙ c.byte-old.ensures) c.at_place-word.ensures w.at-is
     ]
 
 pub overflow_add-word : goal.overflow_add-word

@@ -1,5 +1,4 @@
 use mathlib.Core.Path.{sym, ◌∙◌}
-use Prim.Native.Nat.{◌-◌}
 use native.Mathlib.Omega.{arith}
 use lib.ListN.{length-set}
 use Rattle.trace.proofs.Bits.{count-le}
@@ -24,7 +23,7 @@ pub loop-i-preserved : goal.loop-i-preserved
 loop-i-preserved c =
     let m = c.loop-i.invariant in
     elim c.if-bit-eq1.branch [
-      then-bit-eq1 w ↦ putting-byte _ _ _ _ _ _ m (omega arith) (simp length-set c.requires) _ _ _ (sym c.bit.ensures ∙ w.if-bit-eq1.true) w.byte.ensures w.out-is w.at-is
+      | then-bit-eq1 w ↦ putting-byte _ _ _ _ _ _ m (omega arith) (simp length-set c.requires) _ _ _ (sym c.bit.ensures ∙ w.if-bit-eq1.true) w.byte.ensures w.out-is w.at-is
       | else-bit-eq1 w ↦ putting-skip _ _ _ _ _ _ m (omega arith) (simp length-set c.requires) _ _ (λ h. w.if-bit-eq1.false (c.bit.ensures ∙ h)) w.out-is w.at-is
     ]
 

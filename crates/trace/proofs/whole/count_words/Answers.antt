@@ -1,4 +1,3 @@
-use Prim.Native.Nat.{◌-◌}
 use native.Mathlib.Omega.{arith}
 use Rattle.trace.proofs.Passes.{counting-none, counting-word, counting-end, counting-torn, counting-idle}
 use Rattle.trace.proofs.whole.count_words.Goals as goal

@@ -1,4 +1,3 @@
-use Prim.Native.Nat.{◌-◌}
 use native.Mathlib.Omega.{arith}
 use Rattle.trace.proofs.Passes.{putting-all-none, put-part-room, putting-all-word, putting-all-done}
 use Rattle.trace.proofs.whole.put_all.Goals as goal

@@ -1,4 +1,3 @@
-use Prim.Native.Nat.{◌-◌}
 use native.Mathlib.Omega.{arith}
 use Rattle.trace.proofs.Passes.{measuring-none, measuring-word, measuring-done}
 use Rattle.trace.proofs.whole.trace_length.Goals as goal
