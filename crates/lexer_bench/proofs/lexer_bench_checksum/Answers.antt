@@ -23,9 +23,8 @@ pub loop-t-smaller : goal.loop-t-smaller
 loop-t-smaller c = omega (arith, moves c)
 
 pub loop-t-preserved : goal.loop-t-preserved
-loop-t-preserved c =
-    (
-      (moves c).1,
-      rw c.add-sum.ensures
-          (sum_goes _ _ _ c.token_at-t.result (at_words _ _ c.rule_words.ensures c.token_at-t.ensures) c.loop-t.invariant.1 (sym c.goes_on.ensures ∙ not-false _ c.if-not-goes_on.false-raw)),
-    )
+loop-t-preserved c = (
+  (moves c).1,
+  rw c.add-sum.ensures
+      (sum_goes _ _ _ c.token_at-t.result (at_words _ _ c.rule_words.ensures c.token_at-t.ensures) c.loop-t.invariant.1 (sym c.goes_on.ensures ∙ not-false _ c.if-not-goes_on.false-raw)),
+)
