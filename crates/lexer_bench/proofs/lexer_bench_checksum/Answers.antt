@@ -1,6 +1,5 @@
-use Rattle.std.proofs.Common.{◌-◌, ◌<◌, ◌≤◌, length, sym, refl, ◌∙◌, arith, rules}
+use Rattle.std.proofs.Common.{◌<◌, ◌≤◌, length, sym, refl, ◌∙◌, arith, rules}
 use borrow.Author.Tests.{not-true, not-false}
-use Rattle.lexer.specs.Tokens.{rule_words}
 use Rattle.lexer_bench.proofs.Sums.{at_words, sum-ends, sum_goes, sum-moves}
 use Rattle.lexer_bench.proofs.lexer_bench_checksum.Goals as goal
 
