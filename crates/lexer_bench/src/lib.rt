@@ -1,4 +1,6 @@
 // The lexer as a function on bytes and numbers, which the benchmark calls from Rust: a sum over all tokens of a text.
+#![tactic(auto)]
+
 ghost use Rattle.std.specs.Prelude.{◌≡◌, []};
 ghost use Rattle.lexer.specs.Tokens.{goes_on, rule_words, tokens};
 ghost use Rattle.lexer.specs.Shown.{word_shown, kind_shown};

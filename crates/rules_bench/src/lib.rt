@@ -1,4 +1,6 @@
 // Opening through C, for the benchmark: a refusal's number with the place, or 0 with both counts, in one word.
+#![tactic(auto)]
+
 ghost use Rattle.std.specs.Prelude.{◌≡◌};
 ghost use Rattle.meaning.specs.Opening.{counts_of, open_text};
 ghost use Rattle.rules.specs.Watches.{shown_outcome};

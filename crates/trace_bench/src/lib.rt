@@ -1,5 +1,6 @@
 // Whole traces for the benchmark, which links this crate's static library: a count, or 0 for a
 // refusal.
+#![tactic(auto)]
 
 ghost use Rattle.std.specs.Prelude.{◌≡◌};
 ghost use Rattle.trace.specs.Whole.{lend, lend_answer, number_or_zero, read_trace, write_trace};

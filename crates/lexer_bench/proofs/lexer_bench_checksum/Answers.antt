@@ -1,6 +1,5 @@
-use Rattle.std.proofs.Common.{◌-◌, ◌<◌, ◌≤◌, length, sym, refl, ◌∙◌, arith, rules}
+use Rattle.std.proofs.Common.{◌<◌, ◌≤◌, length, sym, refl, ◌∙◌, arith, rules}
 use borrow.Author.Tests.{not-true, not-false}
-use Rattle.lexer.specs.Tokens.{rule_words}
 use Rattle.lexer_bench.proofs.Sums.{at_words, sum-ends, sum_goes, sum-moves}
 use Rattle.lexer_bench.proofs.lexer_bench_checksum.Goals as goal
 
@@ -23,9 +22,8 @@ pub loop-t-smaller : goal.loop-t-smaller
 loop-t-smaller c = omega (arith, moves c)
 
 pub loop-t-preserved : goal.loop-t-preserved
-loop-t-preserved c =
-    (
-      (moves c).1,
-      rw c.add-sum.ensures
-          (sum_goes _ _ _ c.token_at-t.result (at_words _ _ c.rule_words.ensures c.token_at-t.ensures) c.loop-t.invariant.1 (sym c.goes_on.ensures ∙ not-false _ c.if-not-goes_on.false-raw)),
-    )
+loop-t-preserved c = (
+  (moves c).1,
+  rw c.add-sum.ensures
+      (sum_goes _ _ _ c.token_at-t.result (at_words _ _ c.rule_words.ensures c.token_at-t.ensures) c.loop-t.invariant.1 (sym c.goes_on.ensures ∙ not-false _ c.if-not-goes_on.false-raw)),
+)

@@ -1,4 +1,4 @@
-use Prim.Native.Nat.{ℕ, ◌-◌}
+use Prim.Native.Nat.{ℕ}
 use lib.ListN.{length-set, length-replicate}
 use mathlib.Core.Path.{◌∙◌}
 use native.Mathlib.Omega.{arith}

@@ -5,4 +5,4 @@ use Rattle.rules_bench.specs.Packed.{in_one_word}
 use Rattle.rules_bench.proofs.rules_bench_open.Goals as goal
 
 pub returns : goal.returns
-returns c = c.shown.ensures ∙ ap in_one_word c.«open».ensures.0
+returns c = c.shown.ensures ∙ ap in_one_word c.open-start.ensures.0
