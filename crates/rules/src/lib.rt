@@ -256,6 +256,7 @@ fn open_in(text: &[u8], words: &mut [u64]) -> Start
 }
 
 // Opens a text of up to 4,096 bytes. It calls itself, which never happens, so that no caller's frame holds its words.
+#[inline(never)]
 fn open_middle(text: &[u8]) -> Start
     requires { length text.now ≤ 4096 }
     ensures { (shown_outcome result.outcome ≡ counts_of (open_text text.now)) × (result.watch ≡ watch_of (open_text text.now)) }
@@ -268,6 +269,7 @@ fn open_middle(text: &[u8]) -> Start
 }
 
 // Opens a text of up to 16,384 bytes. It calls itself, which never happens, so that no caller's frame holds its words.
+#[inline(never)]
 fn open_large(text: &[u8]) -> Start
     requires { length text.now ≤ 16384 }
     ensures { (shown_outcome result.outcome ≡ counts_of (open_text text.now)) × (result.watch ≡ watch_of (open_text text.now)) }
