@@ -63,7 +63,7 @@ pub enum Word {
 }
 
 // The list of reserved words that reading is given: those whose flag is set.
-#[derive(Drop)]
+#[derive(Clone, Copy)]
 pub struct Reserved {
     pub input: bool,
     pub internal: bool,

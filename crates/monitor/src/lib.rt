@@ -208,7 +208,7 @@ pub fn step<'a>(
 
 // ---- calls
 
-#[derive(Drop)]
+#[derive(Clone, Copy)]
 pub enum Answer {
     Ok,
     // The monitor, or 32 and the limit.
@@ -218,7 +218,7 @@ pub enum Answer {
 }
 
 // What a take answers, and the watch for the next call.
-#[derive(Drop)]
+#[derive(Clone, Copy)]
 pub struct Taken {
     pub answer: Answer,
     // How many rows the tick touched; 0 if the take is refused.

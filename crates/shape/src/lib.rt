@@ -10,7 +10,7 @@ mod sets;
 mod sides;
 
 // What the two rules answer: the letter at fault by its number in the monitor, or none.
-#[derive(Drop)]
+#[derive(Clone, Copy)]
 pub enum Judged {
     Fine,
     OpenEnd(usize),

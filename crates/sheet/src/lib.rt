@@ -52,7 +52,7 @@ fn put_last<'a>(
 }
 
 // A text opened: the watch, the place behind the first line, and whether that line is the whole sheet.
-#[derive(Drop)]
+#[derive(Clone, Copy)]
 pub struct Begun {
     pub watch: Watch,
     pub at: usize,

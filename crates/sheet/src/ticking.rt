@@ -51,7 +51,7 @@ fn read_item(rest: &[u8], before: u64) -> Item
 
 // What a run over some bytes comes to: the watch and the word before the next record; how many bytes were used; the place
 // behind what was printed; whether a line was printed that ends the sheet.
-#[derive(Drop)]
+#[derive(Clone, Copy)]
 pub struct Ran {
     pub watch: Watch,
     pub before: u64,

@@ -13,7 +13,7 @@ ghost use Rattle.trace.specs.Shown.{shown_trace, shown_written};
 pub use record::{read_at, read_record, write_record};
 pub use whole::{count_words, read_trace, trace_length, write_trace};
 
-#[derive(Drop)]
+#[derive(Clone, Copy)]
 pub enum Read {
     // A word, and its record's length in bytes.
     Word(u64, usize),
@@ -45,7 +45,7 @@ impl Written {
     }
 }
 
-#[derive(Drop)]
+#[derive(Clone, Copy)]
 pub enum TraceRead {
     // This many words were read, to the end.
     Words(usize),
