@@ -143,17 +143,16 @@ pub fn totals(watch: Watch, out: &mut [u8]) -> usize
 }
 
 // Prints what stands behind the first line, from place `at` on and as far as the range reaches, and tells the sheet's length.
-fn print_rest(start: Start, records: &[u8], out: &mut [u8], at: usize) -> usize
+fn print_rest(start: &Start, records: &[u8], out: &mut [u8], at: usize) -> usize
     requires { at ≤ 128 }
-    ensures { (out.new ≡ sets out.old at (cond (is_refused (shown_outcome start.outcome)) [] (closed (run_over (run start.watch 0) records.now))))
-        × (result ≡ at + length (cond (is_refused (shown_outcome start.outcome)) [] (closed (run_over (run start.watch 0) records.now)))) }
+    ensures { (out.new ≡ sets out.old at (cond (is_refused (shown_outcome start.now.outcome)) [] (closed (run_over (run start.now.watch 0) records.now))))
+        × (result ≡ at + length (cond (is_refused (shown_outcome start.now.outcome)) [] (closed (run_over (run start.now.watch 0) records.now)))) }
 {
     let outcome = start.outcome;
     if refused(outcome) {
         return at;
     }
-    let watch = start.watch;
-    let ran = run_from(watch, 0, records, out, at);
+    let ran = run_from(start.watch, 0, records, out, at);
     if ran.ended {
         return ran.at;
     }
@@ -187,16 +186,16 @@ pub extern "C" fn linewatch_sheet(text: &[u8], records: &[u8], sheet: &mut [u8])
     let outcome = start.outcome;
     if surely_fits(start.watch.letters, records.len(), sheet.len()) {
         let at = put_first(outcome, sheet);
-        return print_rest(start, records, sheet, at);
+        return print_rest(&start, records, sheet, at);
     }
     let mut none = [0u8; 1];
     let first = put_first(outcome, &mut none[0..0]);
-    let long = print_rest(start, records, &mut none[0..0], first);
+    let long = print_rest(&start, records, &mut none[0..0], first);
     if sheet.len() < long {
         return 0;
     }
     let at = put_first(outcome, sheet);
-    print_rest(start, records, sheet, at)
+    print_rest(&start, records, sheet, at)
 }
 
 // The record of a word, for C: `trace`'s.
