@@ -66,6 +66,8 @@ use Rattle.windows.proofs.windows_of.Statement as windows-of
 use Rattle.windows.proofs.windows_of.Met as windows-of-met
 use Rattle.windows.proofs.met_mask.Statement as met-mask
 use Rattle.windows.proofs.met_mask.Met as met-mask-met
+use Rattle.windows.proofs.met_mask_in.Statement as met-mask-in
+use Rattle.windows.proofs.met_mask_in.Met as met-mask-in-met
 use Rattle.windows.proofs.first_beyond.Statement as first-beyond
 use Rattle.windows.proofs.first_beyond.Met as first-beyond-met
 use Rattle.windows.proofs.pass.Statement as pass-tick
@@ -78,14 +80,20 @@ use Rattle.monitor.proofs.TouchedRows as touched-rows
 use Rattle.monitor.proofs.Visited as visited
 use Rattle.monitor.proofs.peek.Statement as peek
 use Rattle.monitor.proofs.peek.Met as peek-met
+use Rattle.monitor.proofs.peek_in.Statement as peek_in
+use Rattle.monitor.proofs.peek_in.Met as peek-in-met
 use Rattle.monitor.proofs.step.Statement as step
 use Rattle.monitor.proofs.step.Met as step-met
+use Rattle.monitor.proofs.step_in.Statement as step_in
+use Rattle.monitor.proofs.step_in.Met as step-in-met
 use Rattle.monitor.proofs.tables_of.Statement as tables-of
 use Rattle.monitor.proofs.tables_of.Met as tables-of-met
 use Rattle.monitor.proofs.layout_of.Statement as layout_of
 use Rattle.monitor.proofs.layout_of.Met as layout-of-met
 use Rattle.monitor.proofs.touched.Statement as touched-by
 use Rattle.monitor.proofs.touched.Met as touched-by-met
+use Rattle.monitor.proofs.touched_in.Statement as touched-in
+use Rattle.monitor.proofs.touched_in.Met as touched-in-met
 use Rattle.monitor.proofs.count_met.Statement as count-met
 use Rattle.monitor.proofs.count_met.Met as count-met-met
 use Rattle.monitor.proofs.letters_end.Statement as letters-end
@@ -216,12 +224,19 @@ finish-entry = finish-met.met
 pub totals-entry : {M : Type 1} → totals-of.statement M
 totals-entry = totals-of-met.met
 
--- what a look and a take do on lent tables and a lent block with a word that is not refused, whether that was answered as bad, a watch's tables and its block of words, and 16, 17, 15
+-- what a look and a take do on lent tables, with a watch's arrays and numbers or with its block of words, with a word that is not refused, whether that was answered as bad, a watch's tables and its block of words,
+-- and 16, 17, 15
 pub peek-entry : {M : Type 1} → peek.statement M
 peek-entry = peek-met.met
 
 pub step-entry : {M : Type 1} → step.statement M
 step-entry = step-met.met
+
+pub peek-in-entry : {M : Type 1} → peek_in.statement M
+peek-in-entry = peek-in-met.met
+
+pub step-in-entry : {M : Type 1} → step_in.statement M
+step-in-entry = step-in-met.met
 
 pub is-bad-entry : {M : Type 1} → is-bad.statement M
 is-bad-entry = is-bad-met.met
@@ -243,12 +258,18 @@ counts-of-entry = counts-of-met.met
 pub touched-entry : {M : Type 1} → touched-by.statement M
 touched-entry = touched-by-met.met
 
+pub touched-in-entry : {M : Type 1} → touched-in.statement M
+touched-in-entry = touched-in-met.met
+
 -- the windows of limits: at opening, which limits a tick counts for, the lowest that it is beyond, and with that tick
 pub windows-of-entry : {M : Type 1} → windows-of.statement M
 windows-of-entry = windows-of-met.met
 
 pub met-mask-entry : {M : Type 1} → met-mask.statement M
 met-mask-entry = met-mask-met.met
+
+pub met-mask-in-entry : {M : Type 1} → met-mask-in.statement M
+met-mask-in-entry = met-mask-in-met.met
 
 pub first-beyond-entry : {M : Type 1} → first-beyond.statement M
 first-beyond-entry = first-beyond-met.met
