@@ -58,9 +58,9 @@ use Rattle.monitor.proofs.MemoryLaws.{asks-right, leaves-right}
 use Rattle.monitor.proofs.Monitors.{AllStanding, all_go}
 use Rattle.monitor.proofs.ShutRows.{threads-shut, busy-shut}
 use Rattle.monitor.proofs.Moves.{AllWriteAs, MarksAll}
-use Rattle.monitor.proofs.Watching.{after-at, Steps, steps-right}
+use Rattle.monitor.proofs.Watching.{after-at, Steps, steps-both}
 use Rattle.monitor.proofs.TickSteps.{marks-walked}
-use Rattle.monitor.proofs.Replies.{replies-by, watches-by, Like, monitors_verdict, same-judgment, same_move, moved_on}
+use Rattle.monitor.proofs.Replies.{replies-by, watches-by, Like, monitors_verdict, same-judgment, same_move, bits-move, moved_on}
 use Rattle.monitor.proofs.Single.{one-marked}
 use Rattle.monitor.proofs.LetterTotals.{flat, shown, total-letters, tick-counted, none-counted, ticks-few, totals-split}
 use Rattle.monitor.proofs.LimitMasks.{Bits, mask-right}
@@ -238,13 +238,14 @@ module _ (text : List ℕ) (o : Opened) (e : open_text text ≡ value o) where
     abbrev Good : (K : List ℕ) → List ℕ → Type 0
     Good K = Memory (shut_in (first K)) (rows_of (shut_in (first K)) steps (Program.table_of o) (at w b σ)) o.row_count
 
-    step_from_lem : (K : List ℕ) (xs : List machine.Positions) → MarksAll K 0 0 o.monitors xs
+    step_from_both : (K : List ℕ) (xs : List machine.Positions) → MarksAll K 0 0 o.monitors xs
         → Steps o.monitors (at w b σ) σ padded (length o.initial) (machine.go_each 0 o.monitors xs (at w b σ)) (step_within g (layout_of v) K)
+        × ((nss : List (List ℕ)) → machine.go_each 0 o.monitors xs (at w b σ) ≡ machine.fine nss → (k : ℕ) → get_or (step_within g (layout_of v) K).marks k 0 ≤ 1)
     unfolding v
-    step_from_lem K xs h =
+    step_from_both K xs h =
         let start = begun g K o.letter_count in
         let same : v.letters ≡ o.letter_count = Program.letters-counted o c in
-        steps-right (Good K) (λ M p. p.bits) g (at w b σ) (layout_of v) K
+        steps-both (Good K) (λ M p. p.bits) g (at w b σ) (layout_of v) K
         (rw same (memory-begun steps (Program.table_of o) (at w b σ) o.row_count (first K) (let f = c.few_rows in omega (arith, f)) start))
         (rw same (begun-unmarked (first K) start)) o.monitors ordered
         (Program.monitors-counted o c) c.few_monitors (Program.letters-counted o c ∙ sym c.letters_are) in-room
@@ -260,7 +261,14 @@ module _ (text : List ℕ) (o : Opened) (e : open_text text ≡ value o) where
       → Steps o.monitors (machine.seen m w) m.stores padded (length o.initial) (machine.ticked o.monitors m w) (step_within (given_of v s.values (two w s.last)) (layout_of v) s.marks)
   step_right s m l w =
       subst₂ (λ (z : List ℕ) (b : ℕ). Steps o.monitors (machine.seen m w) m.stores padded (length o.initial) (machine.ticked o.monitors m w) (step_within (given_of v z (two w b)) (layout_of v) s.marks))
-      (sym l.values) (sym l.last) (step_from_lem m.stores l.long w m.last s.marks m.positions l.marks)
+      (sym l.values) (sym l.last) (step_from_both m.stores l.long w m.last s.marks m.positions l.marks).0
+
+  -- behind a good tick each mark is 0 or 1
+  step_bits : (s : Moving) (m : machine.Watch) → Like o.monitors padded (length o.initial) s m → (w : ℕ)
+      → (nss : List (List ℕ)) → machine.ticked o.monitors m w ≡ machine.fine nss → (k : ℕ) → get_or (step_within (given_of v s.values (two w s.last)) (layout_of v) s.marks).marks k 0 ≤ 1
+  step_bits s m l w nss q k =
+      subst₂ (λ (z : List ℕ) (b : ℕ). get_or (step_within (given_of v z (two w b)) (layout_of v) s.marks).marks k 0 ≤ 1)
+      (sym l.values) (sym l.last) ((step_from_both m.stores l.long w m.last s.marks m.positions l.marks).1 nss q k)
 
   -- at its opening it is like the machine
   start-like : Like o.monitors padded (length o.initial) (state_of v).inner (machine.opened o.monitors o.initial)
@@ -270,8 +278,12 @@ module _ (text : List ℕ) (o : Opened) (e : open_text text ≡ value o) where
     values = refl;
     last = refl;
     long = refl;
-    bits = start-bits (length o.monitors);
   }
+
+  -- and each of its marks is 0 or 1
+  first_bits : (k : ℕ) → get_or (state_of v).inner.marks k 0 ≤ 1
+  unfolding v watch_of
+  first_bits = start-bits (length o.monitors)
 
   few_letters : v.letters ≤ 256
   unfolding v
@@ -378,6 +390,11 @@ module _ (text : List ℕ) (o : Opened) (e : open_text text ≡ value o) where
           keeps = ok-keeps 0 o.limits o.monitors (h.ticks ++ tick h w ∷ []) q;
         }
 
+  next_bits : (s : Moving) (h : History) (f : Follows s h) (w : ℕ) → judged o.limits o.monitors h w ≡ ok → (k : ℕ) → get_or (onward v s w).marks k 0 ≤ 1
+  unfolding v
+  next_bits s h f w p =
+      bits-move o.monitors padded (length o.initial) v (Program.monitors-counted o c) c.few_monitors few_letters step_right s f.by w (step_bits s f.by f.like w) (answered s h f w (or_else_ok _ _ p).0)
+
   -- no tick yet
   counting-first : Counting o.limits o.monitors v.windows []
   unfolding v watch_of
@@ -418,9 +435,15 @@ module _ (text : List ℕ) (o : Opened) (e : open_text text ≡ value o) where
   stores-long cs = let f = (follows cs).0 in ap length f.tracks.2 ∙ f.like.long
 
   -- and each mark is 0 or 1
+  follow_bits : (cs : List Call) → (k : ℕ) → get_or (state_from (judge v) (onward v) v.wires (state_of v) cs).inner.marks k 0 ≤ 1
+  unfolding v watch_of
+  follow_bits cs =
+      (same-states (judge v) (onward v) (judged o.limits o.monitors) (fit.onward o.monitors) (λ s h. Follows s h × ((k : ℕ) → get_or s.marks k 0 ≤ 1)) (λ s h f. judges s h f.0)
+      (λ s h f w p. (moves s h f.0 w p, next_bits s h f.0 w p)) o.wires cs (state_of v) (opening (start o.initial)) ((begins, first_bits), refl, refl)).0.1
+
   pub marks-bits : (cs : List Call) → (k : ℕ) → get_or (watch_after_all (watch_of (value o)) cs).marks k 0 ≤ 1
   unfolding v
-  marks-bits cs = rw (watches-by v (state_of v) cs) (follows cs).0.like.bits
+  marks-bits cs = rw (watches-by v (state_of v) cs) (follow_bits cs)
 
   -- After any list of calls the watch has the tick count, the stop, the word before, the store values and the letters' totals that the meaning fixes, zeros behind these; all else
   -- but the marks and the windows of limits is as it was opened.

@@ -48,7 +48,6 @@ pub record Like (ms : List Exp) (pad : List ℕ → List ℕ) (stores : ℕ) (s 
   pub values : s.values ≡ pad m.stores
   pub last : s.last ≡ m.last
   pub long : length m.stores ≡ stores
-  pub bits : (k : ℕ) → get_or s.marks k 0 ≤ 1
 
 -- the verdict of the monitors; W6: "the lowest monitor that does not fit"
 abbrev pub monitors_verdict : Watch → Moving → ℕ → Verdict
@@ -95,5 +94,15 @@ module _ (ms : List Exp) (pad : List ℕ → List ℕ) (stores : ℕ) (v : Watch
   same_move s m l w e = by (machine.ticked ms m w) (steps-within s m l w) e
     where
       by : (a : machine.Ticked) → Steps ms (machine.seen m w) m.stores pad stores a (step_from v s w) → machine.told a ≡ ok → Like ms pad stores (onward v s w) (machine.moved_by ms m w a)
-      by (machine.fine nss) h e = let (a, b, c, d) = h.goes nss refl in record { marks = b; values = c; last = refl; long = d; bits = h.bits nss refl }
+      by (machine.fine nss) h e = let (a, b, c, d) = h.goes nss refl in record { marks = b; values = c; last = refl; long = d }
       by (machine.wrong j) h e = clash (cc e)
+
+  -- and where each mark behind a good tick is 0 or 1, each of the watch that moved on is
+  pub bits-move : (s : Moving) (m : machine.Watch) (w : ℕ)
+      → ((nss : List (List ℕ)) → machine.ticked ms m w ≡ machine.fine nss → (k : ℕ) → get_or (step_within (given_of v s.values (w ∷ s.last ∷ [])) (layout_of v) s.marks).marks k 0 ≤ 1)
+      → machine.answer ms m w ≡ ok → (k : ℕ) → get_or (onward v s w).marks k 0 ≤ 1
+  bits-move s m w h e = by (machine.ticked ms m w) refl e
+    where
+      by : (a : machine.Ticked) → machine.ticked ms m w ≡ a → machine.told a ≡ ok → (k : ℕ) → get_or (onward v s w).marks k 0 ≤ 1
+      by (machine.fine nss) q e k = subst (λ (y : Layout). get_or (step_within (given_of v s.values (w ∷ s.last ∷ [])) y s.marks).marks k 0 ≤ 1) (sym all-within) (h nss q k)
+      by (machine.wrong j) q e k = clash (cc e)

@@ -74,7 +74,6 @@ pub record Steps (ms : List Exp) (t : Tick) (σ : List ℕ) (pad : List ℕ → 
   pub stands : (j : ℕ) → a ≡ wrong j → (z.monitor ≡ j) × (j < length ms)
   pub goes : (nss : List (List ℕ)) → a ≡ fine nss
       → (z.monitor ≡ length ms) × MarksAll z.marks 0 0 ms (kept_each ms nss) × (z.values ≡ pad (write_each t ms nss σ)) × (length (write_each t ms nss σ) ≡ stores)
-  pub bits : (nss : List (List ℕ)) → a ≡ fine nss → (k : ℕ) → get_or z.marks k 0 ≤ 1
 
 module _ (Good : List ℕ → Type 0) (bits : (M : List ℕ) → Good M → (l : ℕ) → l < 256 → get_or M (1024 + l) 0 ≤ 1)
     (g : Given) (t : Tick) (y : Layout) (K : List ℕ) (first : Good (shut_busy g K y.letters empty_memory)) (clear : (l : ℕ) → Marked (shut_busy g K y.letters empty_memory) l → ⊥) (ms : List Exp) (ordered : (m : Exp) → m ∈ ms → Ordered 0 m)
@@ -138,6 +137,14 @@ module _ (Good : List ℕ → Type 0) (bits : (M : List ℕ) → Good M → (l :
       stands = λ j e. bad-step (monitors_go g y K y.monitors 0 begin) j (subst (λ (a : Ticked). Went Good g t y K 0 (length ms) 0 ms a begin (monitors_go g y K y.monitors 0 begin)) e went);
       goes = λ nss e. good-step (monitors_go g y K y.monitors 0 begin) nss (all-inside 0 0 K ms xs t nss marked ordered e)
           (subst (λ (a : Ticked). Went Good g t y K 0 (length ms) 0 ms a begin (monitors_go g y K y.monitors 0 begin)) e went);
-      bits = λ nss e. good-bits (monitors_go g y K y.monitors 0 begin) nss
-          (subst (λ (a : Ticked). Went Good g t y K 0 (length ms) 0 ms a begin (monitors_go g y K y.monitors 0 begin)) e went);
     }
+
+    -- and behind a good tick each mark is 0 or 1
+    pub steps-bits : (nss : List (List ℕ)) → go_each 0 ms xs t ≡ fine nss → (k : ℕ) → get_or (step_within g y K).marks k 0 ≤ 1
+    unfolding step_within
+    steps-bits nss e =
+        good-bits (monitors_go g y K y.monitors 0 begin) nss
+        (subst (λ (a : Ticked). Went Good g t y K 0 (length ms) 0 ms a begin (monitors_go g y K y.monitors 0 begin)) e went)
+
+    pub steps-both : Steps ms t σ pad stores (go_each 0 ms xs t) (step_within g y K) × ((nss : List (List ℕ)) → go_each 0 ms xs t ≡ fine nss → (k : ℕ) → get_or (step_within g y K).marks k 0 ≤ 1)
+    steps-both = (steps-right, steps-bits)

@@ -36,14 +36,6 @@ overflow_sub-name c = let m = name-read _ _ _ _ _ _ _ _ _ c.new_name-name.ensure
 pub write_name-requires : goal.write_name-requires
 write_name-requires c = let m = name-read _ _ _ _ _ _ _ _ _ c.new_name-name.ensures c.if-name-ne0.false in let w = width_is _ _ _ _ _ _ _ c.width_to-wide.ensures c.if-wide-ne0.false in let l = stores-left _ _ _ _ _ _ _ c.new_name-name.ensures c.if-name-ne0.false in let (a, b, d, e, f) = name-room c.requires _ _ _ _ m in (a, omega arith, d, e, f, omega arith, omega arith)
 
--- TODO no need: add-t16
--- add-t16 : tie.Need-overflow-add-t16
--- add-t16 c = let m = name-read _ _ _ _ _ _ _ _ _ c.before.before.before.before.before.before.before.before.before.before.before.before.before.before.before.before.before.new-name.ensures c.before.before.before.before.before.before.before.before.before.before.before.before.before.before.before.if1.false in let (a, b, d, e, f) = name-room c.before.before.before.before.before.before.before.before.before.before.before.before.before.before.before.before.before.before.before.before.before.requires _ _ _ _ m in omega arith
-
--- TODO no need: add-t22
--- add-t22 : tie.Need-overflow-add-t22
--- add-t22 c = let m = name-read _ _ _ _ _ _ _ _ _ c.before.before.before.before.before.before.before.before.before.before.before.before.before.before.before.before.before.before.new-name.ensures c.before.before.before.before.before.before.before.before.before.before.before.before.before.before.before.before.if1.false in omega arith
-
 pub overflow_add-result-2 : goal.overflow_add-result-2
 overflow_add-result-2 c = let l = stores-left _ _ _ _ _ _ _ c.new_name-name.ensures c.if-name-ne0.false in omega arith
 
