@@ -1,3 +1,4 @@
+-- The answers to the goals of `counts::costs_of`.
 use Prim.Native.Nat.{◌-◌}
 use mathlib.Core.Path.{◌≡◌, ◌∙◌, ap}
 use native.Mathlib.Omega.{arith}

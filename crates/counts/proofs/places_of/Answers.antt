@@ -1,3 +1,4 @@
+-- The answers to the goals of `counts::places_of`.
 use mathlib.Core.Path.{◌≡◌, refl, ◌∙◌, ap}
 use native.Mathlib.Omega.{arith}
 use lib.Dec.{eqb}

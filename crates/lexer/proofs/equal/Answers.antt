@@ -1,3 +1,4 @@
+-- The answers to the goals of `lexer::equal`.
 use mathlib.Core.Path.{refl, sym}
 use borrow.Author.Rules.{rules}
 use Rattle.lexer.proofs.Spelling.{same-lengths, same-goes, same-stops, same_ends}

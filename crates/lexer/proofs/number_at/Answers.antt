@@ -1,3 +1,4 @@
+-- The answers to the goals of `lexer::number_at`.
 use mathlib.Core.Path.{◌∙◌}
 use native.Mathlib.Omega.{arith}
 use Rattle.lexer.specs.Bytes.{is_digit}

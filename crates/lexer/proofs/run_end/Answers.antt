@@ -1,3 +1,4 @@
+-- The answers to the goals of `lexer::run_end`.
 use mathlib.Core.Path.{refl}
 use borrow.Author.Rules.{rules}
 use Rattle.lexer.proofs.Runs.{run_ends, run-goes, run-stops, run_past}

@@ -1,3 +1,4 @@
+-- The answers to the goals of `lexer_bench::lexer_bench_checksum`.
 use Rattle.std.proofs.Common.{◌<◌, ◌≤◌, length, sym, refl, ◌∙◌, arith, rules}
 use borrow.Author.Tests.{not-true, not-false}
 use Rattle.lexer_bench.proofs.Sums.{at_words, sum-ends, sum_goes, sum-moves}

@@ -1,3 +1,4 @@
+-- The answers to the goals of `monitor::write_marked`.
 use Prim.Native.Nat.{◌+◌, ◌-◌}
 use mathlib.Core.Path.{◌∙◌}
 use native.Mathlib.Omega.{arith}

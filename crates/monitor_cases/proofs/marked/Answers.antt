@@ -1,3 +1,4 @@
+-- The answers to the goals of `monitor_cases::marked`.
 use Prim.Native.Nat.{ℕ}
 use lib.ListN.{length-set, length-replicate}
 use mathlib.Core.Path.{◌∙◌}

@@ -1,3 +1,4 @@
+-- Measures of `rules::open_middle`, which calls itself.
 use Rattle.rules.proofs.+open_middle.Given as goal
 
 -- it never comes to call itself, so 0 does as the measure

@@ -1,3 +1,4 @@
+-- The answers to the goals of `rules::first_values`.
 use native.Mathlib.Omega.{arith}
 use Prim.Native.Nat.{ℕ}
 use mathlib.Core.Path.{◌≡◌, refl, ◌∙◌, ap}

@@ -1,3 +1,4 @@
+-- The answers to the goals of `rules::start_marks`.
 use native.Mathlib.Omega.{arith}
 use mathlib.Core.Path.{◌≡◌, refl, ◌∙◌, ap}
 use mathlib.Core.List.{List}

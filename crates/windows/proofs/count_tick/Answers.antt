@@ -1,3 +1,4 @@
+-- The answers to the goals of `windows::count_tick`.
 use Rattle.std.proofs.Common.{◌≡◌, refl, ap, ◌∙◌, arith}
 use Rattle.windows.proofs.Steps.{limits-right, counted-more}
 use Rattle.windows.specs.Windows.{counted, limits_in}

@@ -1,3 +1,4 @@
+-- The answers to the goals of `windows::first_beyond`.
 use Rattle.std.proofs.Common.{sym, ◌∙◌, arith}
 use Rattle.windows.proofs.Steps.{limits-right, beyond-first, beyond-none, beyond-here, beyond-later}
 use Rattle.windows.proofs.first_beyond.Goals as goal

@@ -1,3 +1,4 @@
+-- The answers to the goals of `windows::met_mask`.
 use Rattle.std.proofs.Common.{◌≡◌, min, refl, ap, ◌∙◌, arith}
 use Rattle.windows.proofs.Steps.{met-more}
 use Rattle.windows.specs.Windows.{met_mask}

@@ -1,3 +1,4 @@
+-- The answers to the goals of `windows::met_mask_in`.
 use Rattle.std.proofs.Common.{◌≡◌, ℕ, ◌+◌, min, cond, eqb, get_or, refl, ap, ◌∙◌, arith}
 use Rattle.windows.proofs.Steps.{counted-at, met-more}
 use Rattle.windows.specs.Windows.{counted_in, met_mask}

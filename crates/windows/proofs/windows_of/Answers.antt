@@ -1,3 +1,4 @@
+-- The answers to the goals of `windows::windows_of`.
 use Rattle.std.proofs.Common.{◌≡◌, refl, ap, ◌∙◌, arith}
 use Rattle.windows.proofs.Steps.{back-right, limited-more, opened-right}
 use Rattle.windows.specs.Windows.{limited}

@@ -1,3 +1,4 @@
+-- The answers to the goals of `live::state::put_values`.
 use lib.ListN.{get_or}
 use mathlib.Core.Path.{◌≡◌, refl}
 use native.Mathlib.Omega.{arith}

@@ -1,3 +1,4 @@
+-- The answers to the goals of `live::state::put_windows`.
 use Prim.Native.Nat.{◌*◌}
 use mathlib.Core.Path.{refl}
 use native.Mathlib.Omega.{arith}

@@ -1,3 +1,4 @@
+-- The answers to the goals of `live::state::values_in`.
 use mathlib.Core.Path.{◌≡◌, refl}
 use native.Mathlib.Omega.{arith}
 use Rattle.live.specs.State.{values_from}

@@ -1,3 +1,4 @@
+-- The answers to the goals of `live::state::windows_in`.
 use mathlib.Core.Path.{◌∙◌}
 use native.Mathlib.Omega.{arith}
 use Rattle.live.specs.State.{windows_from}

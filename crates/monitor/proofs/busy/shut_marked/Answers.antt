@@ -1,3 +1,4 @@
+-- The answers to the goals of `monitor::busy::shut_marked`.
 use mathlib.Core.Path.{refl, ◌∙◌}
 use native.Mathlib.Omega.{arith}
 use Rattle.monitor.proofs.TickSteps.{done-some, done-one, done-up}

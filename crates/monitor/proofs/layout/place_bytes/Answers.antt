@@ -1,3 +1,4 @@
+-- The answers to the goals of `monitor::layout::place_bytes`.
 use Prim.Native.Nat.{ℕ, ◌+◌}
 use lib.ListN.{set}
 use lib.Seq.{sets}

@@ -1,3 +1,4 @@
+-- The answers to the goals of `monitor::marks::put_marks`.
 use mathlib.Core.Path.{refl}
 use native.Mathlib.Omega.{arith}
 use Rattle.monitor.proofs.Marked.{marks-next, marks-end}

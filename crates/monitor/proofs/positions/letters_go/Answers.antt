@@ -1,3 +1,4 @@
+-- The answers to the goals of `monitor::positions::letters_go`.
 use Prim.Native.Nat.{◌+◌, ◌-◌}
 use borrow.Author.Tests.{not-true, not-false}
 use mathlib.Core.Path.{◌∙◌}

@@ -1,3 +1,4 @@
+-- The answers to the goals of `monitor::positions::monitors_go`.
 use borrow.Author.Tests.{not-true, not-false}
 use mathlib.Core.Path.{◌∙◌}
 use native.Mathlib.Omega.{arith}

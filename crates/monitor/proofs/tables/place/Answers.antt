@@ -1,3 +1,4 @@
+-- The answers to the goals of `monitor::tables::place`.
 use Prim.Native.Nat.{◌+◌}
 use lib.Seq.{sets}
 use mathlib.Core.Path.{◌≡◌, refl, ap}

@@ -1,3 +1,4 @@
+-- The answers to the goals of `monitor::tables::threaded_of`.
 use Prim.Native.Nat.{◌-◌}
 use borrow.Author.Tests.{eq-eqb, ne_eqb}
 use mathlib.Core.Path.{refl, sym, ◌∙◌}

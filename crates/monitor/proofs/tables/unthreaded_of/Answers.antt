@@ -1,3 +1,4 @@
+-- The answers to the goals of `monitor::tables::unthreaded_of`.
 use mathlib.Core.Path.{refl, sym, ◌∙◌}
 use native.Mathlib.Omega.{arith}
 use Rattle.monitor.proofs.Marked.{first-here, first-none, first_past, one-alone}

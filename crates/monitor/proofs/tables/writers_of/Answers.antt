@@ -1,3 +1,4 @@
+-- The answers to the goals of `monitor::tables::writers_of`.
 use Prim.Native.Nat.{◌-◌}
 use mathlib.Core.Path.{refl, sym, ◌∙◌}
 use native.Mathlib.Omega.{arith}

@@ -1,3 +1,4 @@
+-- The answers to the goals of `monitor::tally::ask_threads`.
 use mathlib.Core.List.{[]}
 use native.Mathlib.Omega.{arith}
 use lib.ListN.{get_or}

@@ -1,3 +1,4 @@
+-- The answers to the goals of `monitor::tally::touch_marked`.
 use mathlib.Core.List.{[]}
 use Prim.Native.Nat.{◌+◌, ◌-◌}
 use native.Mathlib.Omega.{arith}

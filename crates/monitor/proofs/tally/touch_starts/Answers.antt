@@ -1,3 +1,4 @@
+-- The answers to the goals of `monitor::tally::touch_starts`.
 use mathlib.Core.List.{[]}
 use native.Mathlib.Omega.{arith}
 use Rattle.monitor.specs.Ticks.{own_in}

@@ -1,3 +1,4 @@
+-- The answers to the goals of `monitor::threads::threads_of`.
 use mathlib.Core.Path.{refl, ◌∙◌, ap}
 use native.Mathlib.Omega.{arith}
 use Rattle.monitor.specs.Threads.{row_numbers, threads_from}

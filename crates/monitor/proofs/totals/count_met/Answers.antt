@@ -1,3 +1,4 @@
+-- The answers to the goals of `monitor::totals::count_met`.
 use Prim.Native.Nat.{ℕ}
 use mathlib.Core.Path.{◌∙◌, ap}
 use native.Mathlib.Omega.{arith}

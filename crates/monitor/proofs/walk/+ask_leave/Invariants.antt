@@ -1,3 +1,4 @@
+-- Measures of `ask` and `leave` of `monitor::walk`, which call one another.
 use Rattle.monitor.proofs.walk.+ask_leave.Given as goal
 
 abbrev pub decreases-ask : goal.decreases-ask

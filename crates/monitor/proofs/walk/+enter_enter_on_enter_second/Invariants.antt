@@ -1,3 +1,4 @@
+-- Measures of `enter`, `enter_on` and `enter_second` of `monitor::walk`, which call one another.
 use Prim.Native.Nat.{◌*◌, ◌+◌}
 use Rattle.monitor.proofs.walk.+enter_enter_on_enter_second.Given as goal
 

@@ -1,3 +1,4 @@
+-- The answers to the goals of `rules::counted::came_through`.
 use native.Mathlib.Omega.{arith}
 use mathlib.Core.Path.{sym, ◌∙◌}
 use mathlib.Core.Bool.{true}

@@ -1,3 +1,4 @@
+-- The answers to the goals of `rules::counted::counted_letters`.
 use native.Mathlib.Omega.{arith}
 use borrow.Author.Rules.{rules}
 use Rattle.rules.specs.Counted.{limit_words}

@@ -1,3 +1,4 @@
+-- The answers to the goals of `rules::counted::mask_of`.
 use native.Mathlib.Omega.{arith}
 use Prim.Native.Nat.{◌-◌}
 use Rattle.rules.proofs.Counting.{mask_start, mask_low, mask-more, mask-whole}

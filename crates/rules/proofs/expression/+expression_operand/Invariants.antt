@@ -1,3 +1,4 @@
+-- Measures of `expression` and `operand` of `rules::expression`, which call one another.
 use Prim.Native.Nat.{◌*◌, ◌+◌, ◌-◌}
 use lib.ListN.{length}
 use Rattle.rules.proofs.Expressing.{Loop}

@@ -1,3 +1,4 @@
+-- The answers to the goals of `rules::lay::unnamed`.
 use native.Mathlib.Omega.{arith}
 use mathlib.Core.Path.{refl, sym, ◌∙◌}
 use Rattle.rules.proofs.Placing.{below-start, below-inside, below-falls, below_next, below_end}

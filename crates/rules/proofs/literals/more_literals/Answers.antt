@@ -1,3 +1,4 @@
+-- The answers to the goals of `rules::literals::more_literals`.
 use native.Mathlib.Omega.{arith}
 use mathlib.Core.Path.{refl}
 use Rattle.rules.specs.Reads.{fine}

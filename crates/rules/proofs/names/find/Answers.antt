@@ -1,3 +1,4 @@
+-- The answers to the goals of `rules::names::find`.
 use native.Mathlib.Omega.{arith}
 use borrow.Author.Rules.{rules}
 use Rattle.rules.proofs.Lookup.{looked-start, inside, looked-next, looked-found, looked-none}

@@ -1,3 +1,4 @@
+-- The answers to the goals of `rules::opening::first_long`.
 use native.Mathlib.Omega.{arith}
 use borrow.Author.Rules.{rules}
 use Rattle.rules.proofs.LongRun.{summed-start, next-cell, summed-end, over, summed-next}

@@ -1,3 +1,4 @@
+-- The answers to the goals of `rules::opening::lay_all`.
 use native.Mathlib.Omega.{arith}
 use borrow.Author.Rules.{rules}
 use mathlib.Core.Path.{refl}

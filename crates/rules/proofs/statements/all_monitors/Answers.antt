@@ -1,3 +1,4 @@
+-- The answers to the goals of `rules::statements::all_monitors`.
 use mathlib.Core.Path.{refl, ◌∙◌}
 use Rattle.rules.proofs.MonitorSteps.{so-none, so-refused, so-ends, so-stops, so-less, so-next}
 use Rattle.rules.proofs.statements.all_monitors.Goals as goal

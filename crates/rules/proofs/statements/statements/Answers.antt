@@ -1,3 +1,4 @@
+-- The answers to the goals of `rules::statements::statements`.
 use mathlib.Core.Path.{refl, ◌∙◌}
 use Rattle.rules.specs.Reads.{fine, faulted}
 use Rattle.rules.proofs.StatementSteps.{declared-none, declared-ready, declared-monitor, declared-refused, declared-next, declared-less}

@@ -1,3 +1,4 @@
+-- The answers to the goals of `rules::writes::more_writes`.
 use native.Mathlib.Omega.{arith}
 use mathlib.Core.Path.{refl}
 use Rattle.rules.proofs.Stepping.{well, since, inside-text}

@@ -1,3 +1,4 @@
+-- The answers to the goals of `shape::ends::lowest_open`.
 use mathlib.Core.Path.{refl, sym, ◌∙◌}
 use native.Mathlib.Omega.{arith}
 use Rattle.shape.proofs.Lowest.{lowest-end}

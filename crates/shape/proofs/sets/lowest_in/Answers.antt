@@ -1,3 +1,4 @@
+-- The answers to the goals of `shape::sets::lowest_in`.
 use mathlib.Core.Path.{refl, sym, ◌∙◌}
 use native.Mathlib.Omega.{arith}
 use Rattle.shape.proofs.Lowest.{lowest-here, lowest-next, lowest-end}

@@ -1,3 +1,4 @@
+-- The answers to the goals of `shape::sides::lowest_fork`.
 use mathlib.Core.Path.{refl, sym, ◌∙◌}
 use Rattle.shape.proofs.Lowest.{lowest-end}
 use Rattle.shape.proofs.Blocks.{block_here, block-next}

@@ -1,3 +1,4 @@
+-- The answers to the goals of `shape::sides::met_with`.
 use mathlib.Core.Path.{refl, sym, ◌∙◌}
 use Prim.Native.Nat.{◌+◌, ◌-◌}
 use native.Mathlib.Omega.{arith}

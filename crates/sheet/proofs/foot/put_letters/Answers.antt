@@ -1,3 +1,4 @@
+-- The answers to the goals of `sheet::foot::put_letters`.
 use Prim.Native.Nat.{ℕ, suc, ◌+◌, ◌-◌}
 use mathlib.Core.Path.{◌≡◌, ap}
 use native.Mathlib.Omega.{arith}

@@ -1,3 +1,4 @@
+-- The answers to the goals of `sheet::foot::put_monitors`.
 use Prim.Native.Nat.{◌+◌, ◌-◌, min}
 use mathlib.Core.Path.{ap}
 use native.Mathlib.Omega.{arith}

@@ -1,3 +1,4 @@
+-- The answers to the goals of `sheet::page::fill_decimal`.
 use native.Mathlib.Omega.{arith}
 use lib.ListN.{drop}
 use Rattle.sheet.proofs.PageSteps.{fill_start, fill-place, fill_more, fill_end}

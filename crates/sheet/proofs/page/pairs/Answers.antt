@@ -1,3 +1,4 @@
+-- The answers to the goals of `sheet::page::pairs`.
 use Prim.Native.Nat.{ℕ}
 use lib.ListN.{length-set, length-replicate}
 use native.Mathlib.Omega.{arith}

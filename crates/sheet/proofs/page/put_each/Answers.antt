@@ -1,3 +1,4 @@
+-- The answers to the goals of `sheet::page::put_each`.
 use lib.ListN.{length}
 use lib.Seq.{length-sets}
 use mathlib.Core.Path.{ap, ◌∙◌}

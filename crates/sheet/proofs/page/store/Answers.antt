@@ -1,3 +1,4 @@
+-- The answers to the goals of `sheet::page::store`.
 use Prim.Native.Nat.{ℕ, ◌+◌}
 use lib.ListN.{length-set}
 use lib.Seq.{sets}

@@ -1,3 +1,4 @@
+-- The answers to the goals of `sheet::page::store_word`.
 use borrow.Author.Rules.{rules}
 use Prim.Native.Nat.{◌*◌}
 use mathlib.Core.Path.{refl}

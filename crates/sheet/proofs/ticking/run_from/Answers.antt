@@ -1,3 +1,4 @@
+-- The answers to the goals of `sheet::ticking::run_from`.
 use native.Mathlib.Omega.{arith}
 use mathlib.Core.List.{◌∷◌, []}
 use Rattle.meaning.specs.Sheet.{refusal_line, foot}

@@ -1,3 +1,4 @@
+-- The answers to the goals of `trace::record::changes`.
 use mathlib.Core.Path.{sym, ◌∙◌, subst, refl}
 use Prim.Native.Nat.{◌<◌}
 use native.Mathlib.Omega.{arith}

@@ -1,3 +1,4 @@
+-- The answers to the goals of `trace::record::merge`.
 use mathlib.Core.Path.{sym, ◌∙◌, subst}
 use Prim.Native.Nat.{◌+◌, ◌^◌, ◌<◌}
 use native.Mathlib.Omega.{arith}

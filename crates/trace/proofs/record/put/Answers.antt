@@ -1,3 +1,4 @@
+-- The answers to the goals of `trace::record::put`.
 use mathlib.Core.Path.{sym, ◌∙◌}
 use native.Mathlib.Omega.{arith}
 use lib.ListN.{length-set}

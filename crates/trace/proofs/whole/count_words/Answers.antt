@@ -1,3 +1,4 @@
+-- The answers to the goals of `trace::whole::count_words`.
 use native.Mathlib.Omega.{arith}
 use Rattle.trace.proofs.Passes.{counting-none, counting-word, counting-end, counting-torn, counting-idle}
 use Rattle.trace.proofs.whole.count_words.Goals as goal

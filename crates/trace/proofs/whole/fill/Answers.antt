@@ -1,3 +1,4 @@
+-- The answers to the goals of `trace::whole::fill`.
 use native.Mathlib.Omega.{arith}
 use borrow.Enum.Refused.{opened}
 use Rattle.trace.proofs.Passes.{filling-none, filling-word, filling-never, filling-done}

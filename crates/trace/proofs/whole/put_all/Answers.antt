@@ -1,3 +1,4 @@
+-- The answers to the goals of `trace::whole::put_all`.
 use native.Mathlib.Omega.{arith}
 use Rattle.trace.proofs.Passes.{putting-all-none, put-part-room, putting-all-word, putting-all-done}
 use Rattle.trace.proofs.whole.put_all.Goals as goal

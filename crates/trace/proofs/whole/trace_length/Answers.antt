@@ -1,3 +1,4 @@
+-- The answers to the goals of `trace::whole::trace_length`.
 use native.Mathlib.Omega.{arith}
 use Rattle.trace.proofs.Passes.{measuring-none, measuring-word, measuring-done}
 use Rattle.trace.proofs.whole.trace_length.Goals as goal

@@ -1,3 +1,4 @@
+-- The answers to the goals of `trace_cases::random::agreeing`.
 use native.Mathlib.Omega.{arith}
 use mathlib.Core.Logic.{⊎_elim}
 use Rattle.trace_cases.proofs.random.agreeing.Goals as goal

@@ -1,3 +1,4 @@
+-- The answers to the goals of `trace_cases::random::fill`.
 use lib.ListN.{length-set}
 use native.Mathlib.Omega.{arith}
 use Rattle.trace_cases.proofs.random.fill.Goals as goal
