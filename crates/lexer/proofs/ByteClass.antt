@@ -1,38 +1,20 @@
 -- What a byte's class says of it.
 -- Assumes nothing.
-use mathlib.Core.Path.{◌≡◌, refl, sym, ◌∙◌, ap, fun_ext}
+use mathlib.Core.Path.{◌≡◌, refl, sym, ◌∙◌, ap}
 use mathlib.Core.Bool.{Bool, true, false, cond, ◌||◌, false≢true}
 use mathlib.Core.List.{List, [], ◌∷◌}
 use mathlib.Core.Logic.{◌⊎◌, inl, inr, ⊎_elim}
 use Prim.Native.Nat.{ℕ, ◌+◌, ◌<◌, ◌≤◌}
-use native.Mathlib.Decide.{dec_lt}
 use native.Mathlib.Omega.{arith}
 use lib.Dec.{leb, eqb}
-use borrow.Author.Tests.{le-leb, lt-leb, leb-true, eqb-true, ne_eqb}
-use Rattle.lexer.specs.Bytes.{Entry, any, is_white, is_digit, is_letter, is_name_byte, bytes}
+use borrow.Author.Tests.{lt-leb, leb-true, eqb-true, ne_eqb}
+use Rattle.lexer.specs.Bytes.{Entry, any, is_white, is_digit, is_letter, bytes}
 use Rattle.lexer.specs.Signs.{signs}
-use Rattle.lexer.specs.Classes.{begins, sign_class, class_of, within, in_classes}
-use Rattle.lexer.proofs.Bools.{and_left, and_right, and-false, or-false, or_left, or_right, not-true}
-
--- a class that lies below or above a range of classes, or within it
-module _ (low high b k : ℕ) (is : k ≡ class_of b) where
-  pub below-classes : k < low → in_classes low high b ≡ false
-  below-classes h = rw (← is, lt-leb low k h)
-
-  pub above-classes : high < k → in_classes low high b ≡ false
-  above-classes h = rw (← is, lt-leb k high h) (and-false (leb low k))
-
-  pub within-classes : low ≤ k → k ≤ high → in_classes low high b ≡ true
-  within-classes h g = rw (← is, le-leb low k h, le-leb k high g)
-
--- a single class
-pub in-class : (n b k : ℕ) → k ≡ class_of b → k ≡ n → in_classes n n b ≡ true
-in-class n b k is e = within-classes n n b k is (omega arith) (omega arith)
-
-pub not-in-class : (n b k : ℕ) → k ≡ class_of b → (k ≡ n → ⊥) → in_classes n n b ≡ false
-not-in-class n b k is h =
-    not-true (in_classes n n b) λ e.
-    h (is ∙ omega (arith, leb-true n (class_of b) (and_left (leb n (class_of b)) (leb (class_of b) n) e), leb-true (class_of b) n (and_right (leb n (class_of b)) (leb (class_of b) n) e)))
+use Rattle.lexer.specs.Classes.{begins, sign_class, class_of, class_number}
+use Rattle.lexer.specs.Shown.{sign_number}
+use Rattle.lexer.specs.declared.classes.Class.{Class}
+use Rattle.lexer.specs.declared.classes.Class.TheVariants.{White, Digit, Letter, Sign, Other}
+use Rattle.lexer.proofs.Bools.{and_left, and_right, or_left, or_right}
 
 -- a test that fails at each byte of a list fails at a byte that is one of them
 none_of : (f : ℕ → Bool) (b : ℕ) (xs : List ℕ) → any (eqb b) xs ≡ true → any f xs ≡ false → f b ≡ false
@@ -65,67 +47,29 @@ signs_apart : (b c : ℕ) (es : List (Entry ℕ)) → Apart c → Apart (sign_cl
 signs_apart b c [] h = h
 signs_apart b c (e ∷ es) h = signs_apart b (cond (begins b e.spelling) (4 + e.meaning) c) es (apart-cond (begins b e.spelling) e.meaning c h)
 
--- a range of classes below 4, by the tests that make the class
-module _ (low high : ℕ) (one : 1 ≤ low) (three : high ≤ 3) where
-  apart-outside : (k : ℕ) → Apart k → within low high k ≡ false
-  unfolding Apart
-  apart-outside k h =
-      ⊎_elim
-      (λ z. rw (lt-leb low k (omega arith)))
-      (λ f. rw (lt-leb k high (omega arith)) (and-false (leb low k)))
-      h
+-- the class that three tests choose, each of which excludes the next, decides them
+chosen-white : (w d l : Bool) (n : ℕ) → Apart n → w ≡ eqb (cond w 1 (cond d 2 (cond l 3 n))) 1
+unfolding Apart
+chosen-white true d l n h = refl
+chosen-white false true l n h = refl
+chosen-white false false true n h = refl
+chosen-white false false false n h = sym (ne_eqb n 1 (λ e. ⊎_elim (λ z. omega arith) (λ f. omega arith) h))
 
-  tested : (w d l : Bool) (k : ℕ) → within low high k ≡ false
-      → within low high (cond w 1 (cond d 2 (cond l 3 k)))
-      ≡ cond w (within low high 1) (cond d (within low high 2) (cond l (within low high 3) false))
-  tested true d l k h = refl
-  tested false true l k h = refl
-  tested false false true k h = refl
-  tested false false false k h = h
+chosen-digit : (w d l : Bool) (n : ℕ) → Apart n → (w ≡ true → d ≡ false) → d ≡ eqb (cond w 1 (cond d 2 (cond l 3 n))) 2
+unfolding Apart
+chosen-digit true d l n h wd = wd refl
+chosen-digit false true l n h wd = refl
+chosen-digit false false true n h wd = refl
+chosen-digit false false false n h wd = sym (ne_eqb n 2 (λ e. ⊎_elim (λ z. omega arith) (λ f. omega arith) h))
 
-  by_tests : (b : ℕ) → in_classes low high b
-      ≡ cond (is_white b) (within low high 1) (cond (is_digit b) (within low high 2) (cond (is_letter b) (within low high 3) false))
-  unfolding class_of Apart
-  by_tests b =
-      tested (is_white b) (is_digit b) (is_letter b) (sign_class b 0 signs) (apart-outside (sign_class b 0 signs) (signs_apart b 0 signs (inl refl)))
+chosen-letter : (w d l : Bool) (n : ℕ) → Apart n → (w ≡ true → l ≡ false) → (d ≡ true → l ≡ false) → l ≡ eqb (cond w 1 (cond d 2 (cond l 3 n))) 3
+unfolding Apart
+chosen-letter true d l n h wl dl = wl refl
+chosen-letter false true l n h wl dl = dl refl
+chosen-letter false false true n h wl dl = refl
+chosen-letter false false false n h wl dl = sym (ne_eqb n 3 (λ e. ⊎_elim (λ z. omega arith) (λ f. omega arith) h))
 
--- the ranges of classes that the code asks for are the tests of the definitions
-pub white-classes : in_classes 1 1 ≡ is_white
-white-classes = fun_ext (λ b. by_tests 1 1 (omega arith) (omega arith) b ∙ go (is_white b) (is_digit b) (is_letter b))
-  where
-    go : (w d l : Bool) → cond w true (cond d false (cond l false false)) ≡ w
-    go true d l = refl
-    go false true l = refl
-    go false false true = refl
-    go false false false = refl
-
-pub digit-classes : in_classes 2 2 ≡ is_digit
-digit-classes = fun_ext (λ b. by_tests 2 2 (omega arith) (omega arith) b ∙ go (is_white b) (is_digit b) (is_letter b) (white-no-digit b))
-  where
-    go : (w d l : Bool) → (w ≡ true → d ≡ false) → cond w false (cond d true (cond l false false)) ≡ d
-    go true d l h = sym (h refl)
-    go false true l h = refl
-    go false false true h = refl
-    go false false false h = refl
-
-pub name-classes : in_classes 2 3 ≡ is_name_byte
-name-classes =
-    fun_ext (λ b. by_tests 2 3 (omega arith) (omega arith) b ∙ go (is_white b) (is_digit b) (is_letter b) (white-no-digit b) (white-no-letter b))
-  where
-    go : (w d l : Bool) → (w ≡ true → d ≡ false) → (w ≡ true → l ≡ false) → cond w false (cond d true (cond l true false)) ≡ l || d
-    go true d l h g = rw (h refl, g refl)
-    go false true true h g = refl
-    go false true false h g = refl
-    go false false true h g = refl
-    go false false false h g = refl
-
--- a digit by its class, and where the digits lie
-pub digit-class : (b k : ℕ) → k ≡ class_of b → k ≡ 2 → is_digit b ≡ true
-digit-class b k is e = ap (λ (f : ℕ → Bool). f b) (sym digit-classes) ∙ in-class 2 b k is e
-
-pub no-digit-class : (b k : ℕ) → k ≡ class_of b → (k ≡ 2 → ⊥) → is_digit b ≡ false
-no-digit-class b k is h = ap (λ (f : ℕ → Bool). f b) (sym digit-classes) ∙ not-in-class 2 b k is h
-
+-- where the digits lie
 pub digit-range : (b : ℕ) → is_digit b ≡ true → (48 ≤ b) × (b ≤ 57)
 unfolding is_digit
 digit-range b e = (leb-true 48 b (and_left (leb 48 b) (leb b 57) e), leb-true b 57 (and_right (leb 48 b) (leb b 57) e))
@@ -136,15 +80,64 @@ digit-no-letter b d =
     let r = digit-range b d in
     rw (lt-leb 97 b (omega arith), lt-leb 65 b (omega arith), ne_eqb b 95 (λ e. omega arith))
 
--- a letter by its class, and what is neither
-pub letter-class : (b k : ℕ) → k ≡ class_of b → k ≡ 3 → is_letter b ≡ true
-letter-class b k is e =
-    sym (or-false (is_letter b))
-    ∙ rw (no-digit-class b k is (λ (q : k ≡ 2). omega arith)) at (ap (λ (f : ℕ → Bool). f b) (sym name-classes) ∙ within-classes 2 3 b k is (omega arith) (omega arith))
+-- the tests of a byte by its class
+module _ (b k : ℕ) (is : k ≡ class_of b) where
+  apart : Apart (sign_class b 0 signs)
+  unfolding Apart
+  apart = signs_apart b 0 signs (inl refl)
 
-pub no-letter-class : (b k : ℕ) → k ≡ class_of b → (k ≡ 2 → ⊥) → (k ≡ 3 → ⊥) → is_letter b ≡ false
-no-letter-class b k is h g = or_left (is_letter b) (is_digit b) (ap (λ (f : ℕ → Bool). f b) (sym name-classes) ∙ go (dec_lt k 2))
-  where
-    go : Dec (k < 2) → in_classes 2 3 b ≡ false
-    go (yes l) = below-classes 2 3 b k is l
-    go (no l) = above-classes 2 3 b k is (omega arith)
+  pub white-class : is_white b ≡ eqb k 1
+  unfolding class_of
+  white-class = rw is (chosen-white (is_white b) (is_digit b) (is_letter b) (sign_class b 0 signs) apart)
+
+  pub digit-class : is_digit b ≡ eqb k 2
+  unfolding class_of
+  digit-class = rw is (chosen-digit (is_white b) (is_digit b) (is_letter b) (sign_class b 0 signs) apart (white-no-digit b))
+
+  pub letter-class : is_letter b ≡ eqb k 3
+  unfolding class_of
+  letter-class = rw is (chosen-letter (is_white b) (is_digit b) (is_letter b) (sign_class b 0 signs) apart (white-no-letter b) (digit-no-letter b))
+
+-- the same by the code's class
+no-white-number : (k : Class) → (k ≡ White → ⊥) → eqb (class_number k) 1 ≡ false
+no-white-number White h = absurd (h refl)
+no-white-number Digit h = refl
+no-white-number Letter h = refl
+no-white-number (Sign g) h = ne_eqb (4 + sign_number g) 1 (λ e. omega (arith, e))
+no-white-number Other h = refl
+
+no-digit-number : (k : Class) → (k ≡ Digit → ⊥) → eqb (class_number k) 2 ≡ false
+no-digit-number White h = refl
+no-digit-number Digit h = absurd (h refl)
+no-digit-number Letter h = refl
+no-digit-number (Sign g) h = ne_eqb (4 + sign_number g) 2 (λ e. omega (arith, e))
+no-digit-number Other h = refl
+
+no-letter-number : (k : Class) → (k ≡ Letter → ⊥) → eqb (class_number k) 3 ≡ false
+no-letter-number White h = refl
+no-letter-number Digit h = refl
+no-letter-number Letter h = absurd (h refl)
+no-letter-number (Sign g) h = ne_eqb (4 + sign_number g) 3 (λ e. omega (arith, e))
+no-letter-number Other h = refl
+
+pub small : (k : Class) → (k ≡ White) ⊎ (k ≡ Other) → class_number k < 2
+small k h = ⊎_elim (λ w. rw w (omega arith)) (λ o. rw o (omega arith)) h
+
+module _ (b : ℕ) (k : Class) (is : class_number k ≡ class_of b) where
+  pub is-white : k ≡ White → is_white b ≡ true
+  is-white e = white-class b _ is ∙ ap (λ (k : Class). eqb (class_number k) 1) e
+
+  pub is-digit : k ≡ Digit → is_digit b ≡ true
+  is-digit e = digit-class b _ is ∙ ap (λ (k : Class). eqb (class_number k) 2) e
+
+  pub is-letter : k ≡ Letter → is_letter b ≡ true
+  is-letter e = letter-class b _ is ∙ ap (λ (k : Class). eqb (class_number k) 3) e
+
+  pub no-white : (k ≡ White → ⊥) → is_white b ≡ false
+  no-white h = white-class b _ is ∙ no-white-number k h
+
+  pub no-digit : (k ≡ Digit → ⊥) → is_digit b ≡ false
+  no-digit h = digit-class b _ is ∙ no-digit-number k h
+
+  pub no-letter : (k ≡ Letter → ⊥) → is_letter b ≡ false
+  no-letter h = letter-class b _ is ∙ no-letter-number k h

@@ -2,14 +2,9 @@
 -- Assumes nothing.
 use mathlib.Core.Path.{◌≡◌, subst, sym}
 use mathlib.Core.Bool.{Bool, true, ◌&&◌}
-use mathlib.Core.List.{List}
 use mathlib.Core.Logic.{⊎_elim}
 use Prim.Native.Nat.{ℕ, zero, suc, ◌<◌}
 use native.Mathlib.Nat.{eq-or-lt_of_le, le_of_suc-le-suc, not-suc-le-zero}
-use lib.Dec.{eqb}
-use lib.ListN.{get_or}
-use borrow.Author.Tests.{eqb-true}
-use Rattle.lexer.specs.Classes.{class_of, Listed}
 use Rattle.lexer.proofs.Bools.{and_left, and_right}
 
 -- the test passes at every number below n
@@ -24,8 +19,3 @@ every-at f (suc n) e k h =
     (λ q. subst (λ (m : ℕ). f m ≡ true) (sym q) (and_left (f n) (every f n) e))
     (λ l. every-at f n (and_right (f n) (every f n) e) k l)
     (eq-or-lt_of_le (le_of_suc-le-suc h))
-
--- a table lists the class of each byte value if it passes the test at all of them
-pub listed : (xs : List ℕ) → every (λ b. eqb (get_or xs b 0) (class_of b)) 256 ≡ true → Listed xs
-unfolding Listed
-listed xs e b h = eqb-true (get_or xs b 0) (class_of b) (every-at (λ b. eqb (get_or xs b 0) (class_of b)) 256 e b h)

@@ -3,18 +3,17 @@
 use mathlib.Core.Path.{◌≡◌, refl, sym, ◌∙◌, ap, subst}
 use mathlib.Core.Bool.{Bool, true, false, ◌&&◌}
 use mathlib.Core.List.{List, [], ◌∷◌, ◌++◌}
-use Prim.Native.Nat.{ℕ, zero, suc, ◌+◌, ◌<◌, ◌≤◌, zero-le, suc-le-suc}
+use Prim.Native.Nat.{ℕ, zero, suc, ◌+◌, ◌-◌, ◌<◌, ◌≤◌, zero-le, suc-le-suc}
 use native.Mathlib.Nat.{le_of_suc-le-suc, not-suc-le-zero}
-use native.Mathlib.Numerals.{add-one}
 use native.Mathlib.Omega.{arith}
 use lib.ListN.{length, get_or, take, drop, length-drop, drop_of_length-le}
-use lib.Seq.{drop-cons}
+use Rattle.std.proofs.lemmas.List.{take_all, drop_more}
 use Rattle.lexer.specs.Bytes.{run}
 use Rattle.lexer.proofs.Bools.{and_left, and_right}
 
--- a text from i on is the byte at i, and the text from i + 1 on
-pub drop_at : (s : List ℕ) (i : ℕ) → i < length s → drop i s ≡ get_or s i 0 ∷ drop (i + 1) s
-drop_at s i h = rw (add-one, drop-cons s i 0)
+-- what is left of a text from i on, as the code takes it
+pub rest : (s : List ℕ) (i : ℕ) → take (length s - i) (drop i s) ≡ drop i s
+rest s i = take_all (length s - i) (drop i s) (omega (arith, length-drop i s))
 
 -- every byte passes the test
 abbrev pub all : (ℕ → Bool) → List ℕ → Bool
@@ -33,10 +32,10 @@ module _ (p : ℕ → Bool) where
 
   -- the same in a text from an index on
   pub run_at : (s : List ℕ) (i : ℕ) → i < length s → p (get_or s i 0) ≡ true → run p (drop i s) ≡ get_or s i 0 ∷ run p (drop (i + 1) s)
-  run_at s i h e = ap (run p) (drop_at s i h) ∙ run_on (get_or s i 0) (drop (i + 1) s) e
+  run_at s i h e = ap (run p) (drop_more s i 0 h) ∙ run_on (get_or s i 0) (drop (i + 1) s) e
 
   pub run-stops : (s : List ℕ) (i : ℕ) → i < length s → p (get_or s i 0) ≡ false → run p (drop i s) ≡ []
-  run-stops s i h e = ap (run p) (drop_at s i h) ∙ run-off (get_or s i 0) (drop (i + 1) s) e
+  run-stops s i h e = ap (run p) (drop_more s i 0 h) ∙ run-off (get_or s i 0) (drop (i + 1) s) e
 
   pub run_past : (s : List ℕ) (i : ℕ) → length s ≤ i → run p (drop i s) ≡ []
   unfolding run
@@ -68,9 +67,6 @@ module _ (p : ℕ → Bool) where
       go : (t : Bool) → p b ≡ t → length (run p s) ≤ length s → length (run p (b ∷ s)) ≤ length (b ∷ s)
       go true e ih = rw (run_on b s e) (Prim.Native.Nat.suc-le-suc ih)
       go false e ih = rw (run-off b s e) Prim.Native.Nat.zero-le
-
-  pub run-within : (s : List ℕ) (i : ℕ) → i ≤ length s → i + length (run p (drop i s)) ≤ length s
-  run-within s i h = omega (arith, run_length (drop i s), length-drop i s)
 
   -- each byte of a run passes
   pub run-passes : (s : List ℕ) (k : ℕ) → k < length (run p s) → p (get_or s k 0) ≡ true
@@ -106,6 +102,16 @@ module _ (p : ℕ → Bool) where
     where
       go : (t : Bool) → p b ≡ t → all p (run p s) ≡ true → all p (run p (b ∷ s)) ≡ true
       go true e ih = rw (run_on b s e, e) ih
+      go false e ih = rw (run-off b s e)
+
+  -- a run of a run is itself
+  pub run-run : (s : List ℕ) → run p (run p s) ≡ run p s
+  unfolding run
+  run-run [] = refl
+  run-run (b ∷ s) = go (p b) refl (run-run s)
+    where
+      go : (t : Bool) → p b ≡ t → run p (run p s) ≡ run p s → run p (run p (b ∷ s)) ≡ run p (b ∷ s)
+      go true e ih = rw (run_on b s e) (run_on b (run p s) e ∙ ap (λ (l : List ℕ). b ∷ l) ih)
       go false e ih = rw (run-off b s e)
 
   -- a run is the longest: bytes that all pass do not reach past it

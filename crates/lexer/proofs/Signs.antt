@@ -6,17 +6,24 @@ use mathlib.Core.Bool.{Bool, true, false, cond, ◌&&◌, ◌||◌, false≢true
 use mathlib.Core.List.{List, [], ◌∷◌, ◌++◌}
 use mathlib.Core.Option.{Option, none, some}
 use Prim.Native.Nat.{ℕ, suc, ◌+◌, ◌-◌, ◌<◌, ◌≤◌}
+use native.Mathlib.Decide.{dec_lt}
 use native.Mathlib.Omega.{arith}
 use lib.Dec.{ltb, eqb}
 use lib.ListN.{length, get_or, drop}
 use borrow.Author.Tests.{eqb-true, eq-eqb, ne_eqb, ltb-true, lt-ltb, le-ltb}
-use Rattle.lexer.specs.Bytes.{bytes, Entry, any, same, lookup, is_white, is_digit, is_letter}
+use Rattle.lexer.specs.Bytes.{Entry, any, same, lookup, is_white, is_digit, is_letter}
 use Rattle.lexer.specs.Signs.{signs}
 use Rattle.lexer.specs.Tokens.{sign, taken, knot, or_sign, sign_token}
 use Rattle.lexer.specs.Classes.{begins, class_of}
-use Rattle.lexer.proofs.Bools.{and_left, and_right, and-false, or-false, or_left, or_right, eqb-sym}
+use Rattle.lexer.specs.Inner.{second_bytes, second_by}
+use Rattle.lexer.specs.Shown.{sign_number}
+use Rattle.lexer.specs.declared.Sign as Code
+use Rattle.lexer.specs.declared.Sign.TheVariants as code
+use Rattle.std.specs.declared.option.Option.TheVariants.{Some, None}
+use Rattle.std.proofs.lemmas.Option.{none-some, same_Some}
+use Rattle.lexer.proofs.Bools.{taken as taken_left, left, and_left, and_right, and-false, or-false, or_left, or_right, eqb-sym}
 use Rattle.lexer.proofs.Every.{every, every-at}
-use Rattle.lexer.proofs.Runs.{drop_at}
+use Rattle.std.proofs.lemmas.List.{drop_more}
 use Rattle.lexer.proofs.Spelling.{same-eq, lookup-nil, lookup-miss}
 
 -- the second bytes of the spellings of two bytes that begin with a byte
@@ -71,10 +78,6 @@ found_some : (o : Option ℕ) (n : ℕ) → found o ≡ suc n → o ≡ some n
 unfolding found
 found_some none n e = absurd (omega arith)
 found_some (some m) n e = cc
-
--- the code's second bytes of the signs from 14 on
-abbrev pub second_bytes : List ℕ
-second_bytes = bytes "=|>-"
 
 -- by the class k of its first byte: the sign of that byte alone, as a number, and the second bytes that may follow
 abbrev alone_by : ℕ → ℕ
@@ -147,7 +150,7 @@ module _ (s : List ℕ) (p : ℕ) (here : p < length s) (byte : get_or s p 0 < 2
 
   at_one : goes_on_with (seconds_by k) (drop (p + 1) s) ≡ false
       → sign_token p (drop p s) ≡ or_sign p (get_or s p 0 ∷ []) (lookup (get_or s p 0 ∷ []) signs) (knot p)
-  at_one h = ap (sign_token p) (drop_at s p here) ∙ no_second (get_or s p 0) p (drop (p + 1) s) (rw follow h)
+  at_one h = ap (sign_token p) (drop_more s p 0 here) ∙ no_second (get_or s p 0) p (drop (p + 1) s) (rw follow h)
 
   as-knot : goes_on_with (seconds_by k) (drop (p + 1) s) ≡ false → alone_by k ≡ 0 → knot p ≡ sign_token p (drop p s)
   as-knot h e = sym (at_one h ∙ rw (found_none _ (alone ∙ e)))
@@ -161,7 +164,7 @@ module _ (s : List ℕ) (p : ℕ) (here : p < length s) (byte : get_or s p 0 < 2
   pub sign-none : k < 4 → knot p ≡ sign_token p (drop p s)
   sign-none h = as-knot (single (omega arith)) (rw (lt-ltb k 4 h))
 
-  pub sign-single : 4 ≤ k → k - 4 < 14 → taken p (sign (k - 4)) 1 ≡ sign_token p (drop p s)
+  sign-single : 4 ≤ k → k - 4 < 14 → taken p (sign (k - 4)) 1 ≡ sign_token p (drop p s)
   sign-single h g = as-sign (k - 4) (single g) (rw (le-ltb k 4 h, lt-ltb (k - 4) 14 g))
 
   -- the class is that of a sign of two bytes
@@ -169,7 +172,7 @@ module _ (s : List ℕ) (p : ℕ) (here : p < length s) (byte : get_or s p 0 < 2
     pair-right : ltb (k - 4) 18 && eqb (found (lookup (get_or s p 0 ∷ get_or second_bytes (k - 4 - 14) 0 ∷ []) signs)) (suc (k - 4)) ≡ true
     pair-right = rw (← is, le-ltb (k - 4) 14 two) at (every-at pair_right 256 every-pair (get_or s p 0) byte)
 
-    pub sign-bound : k - 4 < 18
+    sign-bound : k - 4 < 18
     sign-bound = ltb-true (k - 4) 18 (and_left (ltb (k - 4) 18) _ pair-right)
 
     -- the byte that may follow
@@ -179,14 +182,74 @@ module _ (s : List ℕ) (p : ℕ) (here : p < length s) (byte : get_or s p 0 < 2
     broken : begins second (drop (p + 1) s) ≡ false → goes_on_with (seconds_by k) (drop (p + 1) s) ≡ false
     broken h = rw (le-ltb (k - 4) 14 two) (goes-on-begins second (drop (p + 1) s) ∙ h)
 
-    pub sign_pair : begins second (drop (p + 1) s) ≡ true → taken p (sign (k - 4)) 2 ≡ sign_token p (drop p s)
+    sign_pair : begins second (drop (p + 1) s) ≡ true → taken p (sign (k - 4)) 2 ≡ sign_token p (drop p s)
     sign_pair h =
         sym
-        (ap (sign_token p) (drop_at s p here)
+        (ap (sign_token p) (drop_more s p 0 here)
         ∙ with_second (get_or s p 0) second (k - 4) p (drop (p + 1) s) (found_some _ (k - 4) (eqb-true _ _ (and_right (ltb (k - 4) 18) _ pair-right))) h)
 
-    pub sign-equals : begins second (drop (p + 1) s) ≡ false → k - 4 ≡ 14 → taken p (sign 13) 1 ≡ sign_token p (drop p s)
+    sign-equals : begins second (drop (p + 1) s) ≡ false → k - 4 ≡ 14 → taken p (sign 13) 1 ≡ sign_token p (drop p s)
     sign-equals h e = as-sign 13 (broken h) (rw (le-ltb k 4 (omega arith), le-ltb (k - 4) 14 two, eq-eqb (k - 4) 14 e))
 
-    pub sign-broken : begins second (drop (p + 1) s) ≡ false → (k - 4 ≡ 14 → ⊥) → knot p ≡ sign_token p (drop p s)
+    sign-broken : begins second (drop (p + 1) s) ≡ false → (k - 4 ≡ 14 → ⊥) → knot p ≡ sign_token p (drop p s)
     sign-broken h e = as-knot (broken h) (rw (le-ltb k 4 (omega arith), le-ltb (k - 4) 14 two, ne_eqb (k - 4) 14 e))
+
+-- a sign of the code is `==` if it has its number
+pub is-double-equals : (g : Code.Sign) → sign_number g ≡ 14 → g ≡ code.DoubleEquals
+is-double-equals code.Semicolon e = absurd (omega (arith, e))
+is-double-equals code.Comma e = absurd (omega (arith, e))
+is-double-equals code.At e = absurd (omega (arith, e))
+is-double-equals code.Star e = absurd (omega (arith, e))
+is-double-equals code.Ampersand e = absurd (omega (arith, e))
+is-double-equals code.Bang e = absurd (omega (arith, e))
+is-double-equals code.LeftParen e = absurd (omega (arith, e))
+is-double-equals code.RightParen e = absurd (omega (arith, e))
+is-double-equals code.LeftBracket e = absurd (omega (arith, e))
+is-double-equals code.RightBracket e = absurd (omega (arith, e))
+is-double-equals code.LeftBrace e = absurd (omega (arith, e))
+is-double-equals code.RightBrace e = absurd (omega (arith, e))
+is-double-equals code.Colon e = absurd (omega (arith, e))
+is-double-equals code.Equals e = absurd (omega (arith, e))
+is-double-equals code.DoubleEquals e = refl
+is-double-equals code.DoubleBar e = absurd (omega (arith, e))
+is-double-equals code.RightArrow e = absurd (omega (arith, e))
+is-double-equals code.LeftArrow e = absurd (omega (arith, e))
+
+-- the code's second byte is there from `==` on
+none-small : (n : ℕ) → None ≡ second_by n → n < 14
+none-small n e = go (dec_lt n 14)
+  where
+    go : Dec (n < 14) → n < 14
+    go (yes l) = l
+    go (no l) = absurd (none-some _ (e ∙ left (ltb n 14) None (Some (get_or second_bytes (n - 14) 0)) (le-ltb n 14 (omega arith))))
+
+some-large : (n x : ℕ) → Some x ≡ second_by n → (14 ≤ n) × (get_or second_bytes (n - 14) 0 ≡ x)
+some-large n x e = go (dec_lt n 14)
+  where
+    go : Dec (n < 14) → (14 ≤ n) × (get_or second_bytes (n - 14) 0 ≡ x)
+    go (yes l) = absurd (none-some x (sym (e ∙ taken_left (ltb n 14) None (Some (get_or second_bytes (n - 14) 0)) (lt-ltb n 14 l))))
+    go (no l) = (omega arith, same_Some _ _ (sym (e ∙ left (ltb n 14) None (Some (get_or second_bytes (n - 14) 0)) (le-ltb n 14 (omega arith)))))
+
+-- the sign at the place p of the text s, where n is the number of the longest that begins with the byte there
+module _ (s : List ℕ) (p : ℕ) (here : p < length s) (byte : get_or s p 0 < 256) (n : ℕ) (is : 4 + n ≡ class_of (get_or s p 0)) where
+  same_number : 4 + n - 4 ≡ n
+  same_number = omega arith
+
+  pub sign-alone : None ≡ second_by n → taken p (sign n) 1 ≡ sign_token p (drop p s)
+  sign-alone e = rw same_number at (sign-single s p here byte (4 + n) is (omega arith) (omega (arith, none-small n e)))
+
+  module _ (x : ℕ) (some : Some x ≡ second_by n) where
+    large : 14 ≤ n
+    large = (some-large n x some).0
+
+    so : get_or second_bytes (n - 14) 0 ≡ x
+    so = (some-large n x some).1
+
+    pub sign-pair : begins x (drop (p + 1) s) ≡ true → taken p (sign n) 2 ≡ sign_token p (drop p s)
+    sign-pair h = rw same_number at (sign_pair s p here byte (4 + n) is (omega (arith, large)) (rw same_number (rw so h)))
+
+    pub sign-one : begins x (drop (p + 1) s) ≡ false → n ≡ 14 → taken p (sign 13) 1 ≡ sign_token p (drop p s)
+    sign-one h e = sign-equals s p here byte (4 + n) is (omega (arith, large)) (rw same_number (rw so h)) (omega (arith, e))
+
+    pub sign-half : begins x (drop (p + 1) s) ≡ false → (n ≡ 14 → ⊥) → knot p ≡ sign_token p (drop p s)
+    sign-half h e = sign-broken s p here byte (4 + n) is (omega (arith, large)) (rw same_number (rw so h)) (λ q. e (omega (arith, q)))

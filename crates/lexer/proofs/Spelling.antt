@@ -4,14 +4,12 @@ use mathlib.Core.Path.{◌≡◌, refl, sym, ◌∙◌, ap, ap₂, subst}
 use mathlib.Core.Bool.{Bool, true, false, ◌&&◌, false≢true}
 use mathlib.Core.List.{List, [], ◌∷◌}
 use mathlib.Core.Option.{Option, none, some, none-ne-some}
-use Prim.Native.Nat.{ℕ, ◌+◌, ◌<◌, ◌≤◌}
-use native.Mathlib.Omega.{arith}
+use Prim.Native.Nat.{ℕ}
 use lib.Dec.{eqb}
-use lib.ListN.{length, get_or, drop, drop_of_length-le}
-use borrow.Author.Tests.{eqb-true, eq-eqb, ne_eqb}
+use borrow.Author.Tests.{eqb-true, eq-eqb}
+use Rattle.std.specs.Cmp.Lexicographic.{pointwise}
 use Rattle.lexer.specs.Bytes.{Entry, same, lookup}
-use Rattle.lexer.proofs.Bools.{and_left, and_right, not-true}
-use Rattle.lexer.proofs.Runs.{drop_at}
+use Rattle.lexer.proofs.Bools.{and_left, and_right}
 
 pub same-eq : (s t : List ℕ) → same s t ≡ true → s ≡ t
 unfolding same
@@ -26,24 +24,13 @@ unfolding same
 same_refl [] = refl
 same_refl (b ∷ s) = rw (eq-eqb b b refl) (same_refl s)
 
-pub same-lengths : (s t : List ℕ) → (length s ≡ length t → ⊥) → same s t ≡ false
-same-lengths s t h = not-true (same s t) (λ e. h (ap length (same-eq s t e)))
-
--- two byte strings of one length that are the same exactly if they are from an index on
-module _ (s t : List ℕ) (i : ℕ) (decides : same (drop i s) (drop i t) ≡ same s t) (equally : length s ≡ length t) where
-  same_at : i < length s → same s t ≡ eqb (get_or s i 0) (get_or t i 0) && same (drop (i + 1) s) (drop (i + 1) t)
-  unfolding same
-  same_at h = sym decides ∙ ap₂ same (drop_at s i h) (drop_at t i (omega arith))
-
-  pub same-goes : i < length s → get_or s i 0 ≡ get_or t i 0 → same (drop (i + 1) s) (drop (i + 1) t) ≡ same s t
-  same-goes h e = rw (same_at h, eq-eqb _ _ e)
-
-  pub same-stops : i < length s → (get_or s i 0 ≡ get_or t i 0 → ⊥) → false ≡ same s t
-  same-stops h e = rw (same_at h, ne_eqb _ _ e)
-
-  pub same_ends : length s ≤ i → true ≡ same s t
-  unfolding same
-  same_ends h = sym (ap₂ same (drop_of_length-le s h) (drop_of_length-le t {i = i} (omega arith))) ∙ decides
+-- the code compares two slices byte by byte
+pub pointwise-same : (s t : List ℕ) → pointwise eqb s t ≡ same s t
+unfolding same
+pointwise-same [] [] = refl
+pointwise-same [] (c ∷ t) = refl
+pointwise-same (b ∷ s) [] = refl
+pointwise-same (b ∷ s) (c ∷ t) = ap (λ (r : Bool). eqb b c && r) (pointwise-same s t)
 
 -- a list of spellings is searched from the front
 pub lookup-nil : {A : Type 0} (s : List ℕ) → ◌≡◌ {A = Option A} (lookup s []) none

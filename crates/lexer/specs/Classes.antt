@@ -5,9 +5,12 @@
 --     3        a letter or _
 --     4 + n    a sign begins with it, and of those that do n is the last in the order of T6, which is the longest
 -- Assumes nothing.
-use Rattle.std.specs.Prelude.{ℕ, ◌+◌, ◌<◌, Bool, false, cond, ◌&&◌, List, [], ◌∷◌, ◌≡◌, leb, eqb, get_or}
+use Rattle.std.specs.Prelude.{ℕ, ◌+◌, Bool, false, cond, List, [], ◌∷◌, eqb}
 use Rattle.lexer.specs.Bytes.{Entry, is_white, is_digit, is_letter}
 use Rattle.lexer.specs.Signs.{signs}
+use Rattle.lexer.specs.Shown.{sign_number}
+use Rattle.lexer.specs.declared.classes.Class.{Class}
+use Rattle.lexer.specs.declared.classes.Class.TheVariants.{White, Digit, Letter, Sign, Other}
 
 abbrev pub begins : ℕ → List ℕ → Bool
 begins b [] = false
@@ -22,13 +25,10 @@ sign_class b c (e ∷ es) = sign_class b (cond (begins b e.spelling) (4 + e.mean
 unfoldable pub class_of : ℕ → ℕ
 class_of b = cond (is_white b) 1 (cond (is_digit b) 2 (cond (is_letter b) 3 (sign_class b 0 signs)))
 
--- T8: a table of 256 entries lists the class of each byte value
-unfoldable pub Listed : List ℕ → Type 0
-Listed table = (b : ℕ) → b < 256 → get_or table b 0 ≡ class_of b
-
-abbrev pub within : ℕ → ℕ → ℕ → Bool
-within low high k = leb low k && leb k high
-
--- the byte has one of the classes from low to high
-abbrev pub in_classes : ℕ → ℕ → ℕ → Bool
-in_classes low high b = within low high (class_of b)
+-- the number of a class of the code
+abbrev pub class_number : Class → ℕ
+class_number Other = 0
+class_number White = 1
+class_number Digit = 2
+class_number Letter = 3
+class_number (Sign g) = 4 + sign_number g

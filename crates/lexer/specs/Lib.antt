@@ -6,3 +6,5 @@ pub mod Tokens
 pub mod Shown
 -- The class of each byte (T8), which its own contract ties to `Bytes`.
 pub mod Classes
+-- What the contracts of the inner functions cite.
+pub mod Inner

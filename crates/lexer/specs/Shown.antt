@@ -1,6 +1,9 @@
 -- What the code's answers, and the list of reserved words that it is given, stand for in the terms of `Tokens` (docs/REFERENCE.md, T4 and T10).
 -- Assumes nothing.
 use Rattle.std.specs.Prelude.{ℕ, ◌-◌, Bool, cond, List, [], ◌∷◌, take, drop}
+use Rattle.lexer.specs.Signs as signs
+use Rattle.lexer.specs.declared.Sign.{Sign}
+use Rattle.lexer.specs.declared.Sign.TheVariants.{Semicolon, Comma, At, Star, Ampersand, Bang, LeftParen, RightParen, LeftBracket, RightBracket, LeftBrace, RightBrace, Colon, Equals, DoubleEquals, DoubleBar, RightArrow, LeftArrow}
 use Rattle.refusals.specs.Numbers as refusal
 use Rattle.lexer.specs.Tokens as tokens
 use Rattle.lexer.specs.declared.Word.{Word}
@@ -9,6 +12,27 @@ use Rattle.lexer.specs.declared.Reserved.{Reserved}
 use Rattle.lexer.specs.declared.Kind.{Kind}
 use Rattle.lexer.specs.declared.Kind.TheVariants as kind
 use Rattle.lexer.specs.declared.Token.{Token}
+
+-- T6: the number in the order there
+abbrev pub sign_number : Sign → ℕ
+sign_number Semicolon = signs.semicolon
+sign_number Comma = signs.comma
+sign_number At = signs.at_sign
+sign_number Star = signs.star
+sign_number Ampersand = signs.ampersand
+sign_number Bang = signs.bang
+sign_number LeftParen = signs.left_paren
+sign_number RightParen = signs.right_paren
+sign_number LeftBracket = signs.left_bracket
+sign_number RightBracket = signs.right_bracket
+sign_number LeftBrace = signs.left_brace
+sign_number RightBrace = signs.right_brace
+sign_number Colon = signs.colon
+sign_number Equals = signs.equals
+sign_number DoubleEquals = signs.double_equals
+sign_number DoubleBar = signs.double_bar
+sign_number RightArrow = signs.right_arrow
+sign_number LeftArrow = signs.left_arrow
 
 -- T4
 abbrev pub word_shown : Word → tokens.Word
@@ -38,12 +62,23 @@ reserved_shown r =
     (with_word r.monitor tokens.monitor
     (with_word r.past tokens.past (limit_words r)))))
 
+-- T4: whether a word is in the list that reading is given
+abbrev pub is_reserved : Reserved → Word → Bool
+is_reserved r Input = r.input
+is_reserved r Internal = r.internal
+is_reserved r Define = r.define
+is_reserved r Monitor = r.monitor
+is_reserved r Past = r.past
+is_reserved r Limit = r.limit
+is_reserved r To = r.to
+is_reserved r In = r.inside
+
 -- of a token whose bytes are s; T7: "Knot, refusal 2"
 abbrev pub kind_shown : List ℕ → Kind → tokens.Token
 kind_shown s kind.Name = tokens.name s
 kind_shown s (kind.Word w) = tokens.word (word_shown w)
 kind_shown s (kind.Number n) = tokens.number n
-kind_shown s (kind.Sign n) = tokens.sign n
+kind_shown s (kind.Sign g) = tokens.sign (sign_number g)
 kind_shown s kind.End = tokens.end
 kind_shown s kind.Knot = tokens.refused refusal.knot
 

@@ -1,143 +1,321 @@
-// The class of each of the 256 byte values, listed once. What the numbers stand for is in specs/Classes.antt.
+// The class of each of the 256 byte values, listed once. What the classes stand for is in specs/Classes.antt.
 ghost use Rattle.std.specs.Prelude.{◌≡◌};
-ghost use Rattle.lexer.specs.Classes.{Listed, class_of};
+ghost use Rattle.lexer.specs.Bytes.{is_white, is_digit, is_name_byte};
+ghost use Rattle.lexer.specs.Classes.{class_of, class_number};
 
-pub const WHITE: u8 = 1;
+use crate::Sign;
+use Class::{Digit, Letter, Other, White};
 
-pub const DIGIT: u8 = 2;
-
-pub const LETTER: u8 = 3;
-// The class of a byte that begins a sign is this and the sign's number.
-pub const SIGN: u8 = 4;
-
-// The entry at each byte value.
-const CLASS: [u8; 256] = [
-    // 0x00 to 0x0f
-    0, 0, 0, 0, 0, 0, 0, 0, 0, 1, // tab
-    1, // line feed
-    0, 0, 1, // carriage return
-    0, 0,
-    // 0x10 to 0x1f
-    0, 0, 0, 0, 0, 0, 0, 0, 0, 0, 0, 0, 0, 0, 0, 0,
-    // 0x20 to 0x2f
-    1, // space
-    9, // !
-    0, 0, 0, 0, 8, // &
-    0, 10, // (
-    11, // )
-    7, // *
-    0, 5, // ,
-    20, // -
-    0, 0,
-    // 0x30 to 0x3f
-    2, // 0
-    2, // 1
-    2, // 2
-    2, // 3
-    2, // 4
-    2, // 5
-    2, // 6
-    2, // 7
-    2, // 8
-    2, // 9
-    16, // :
-    4, // ;
-    21, // <
-    18, // =
-    0, 0,
-    // 0x40 to 0x4f
-    6, // @
-    3, // A
-    3, // B
-    3, // C
-    3, // D
-    3, // E
-    3, // F
-    3, // G
-    3, // H
-    3, // I
-    3, // J
-    3, // K
-    3, // L
-    3, // M
-    3, // N
-    3, // O
-    // 0x50 to 0x5f
-    3, // P
-    3, // Q
-    3, // R
-    3, // S
-    3, // T
-    3, // U
-    3, // V
-    3, // W
-    3, // X
-    3, // Y
-    3, // Z
-    12, // [
-    0, 13, // ]
-    0, 3, // _
-    // 0x60 to 0x6f
-    0, 3, // a
-    3, // b
-    3, // c
-    3, // d
-    3, // e
-    3, // f
-    3, // g
-    3, // h
-    3, // i
-    3, // j
-    3, // k
-    3, // l
-    3, // m
-    3, // n
-    3, // o
-    // 0x70 to 0x7f
-    3, // p
-    3, // q
-    3, // r
-    3, // s
-    3, // t
-    3, // u
-    3, // v
-    3, // w
-    3, // x
-    3, // y
-    3, // z
-    14, // {
-    19, // |
-    15, // }
-    0, 0,
-    // 0x80 to 0x8f
-    0, 0, 0, 0, 0, 0, 0, 0, 0, 0, 0, 0, 0, 0, 0, 0,
-    // 0x90 to 0x9f
-    0, 0, 0, 0, 0, 0, 0, 0, 0, 0, 0, 0, 0, 0, 0, 0,
-    // 0xa0 to 0xaf
-    0, 0, 0, 0, 0, 0, 0, 0, 0, 0, 0, 0, 0, 0, 0, 0,
-    // 0xb0 to 0xbf
-    0, 0, 0, 0, 0, 0, 0, 0, 0, 0, 0, 0, 0, 0, 0, 0,
-    // 0xc0 to 0xcf
-    0, 0, 0, 0, 0, 0, 0, 0, 0, 0, 0, 0, 0, 0, 0, 0,
-    // 0xd0 to 0xdf
-    0, 0, 0, 0, 0, 0, 0, 0, 0, 0, 0, 0, 0, 0, 0, 0,
-    // 0xe0 to 0xef
-    0, 0, 0, 0, 0, 0, 0, 0, 0, 0, 0, 0, 0, 0, 0, 0,
-    // 0xf0 to 0xff
-    0, 0, 0, 0, 0, 0, 0, 0, 0, 0, 0, 0, 0, 0, 0, 0,
-];
-
-// The table, for a caller to hold and lend: a constant array is laid out anew wherever it is used.
-pub(crate) fn class_table() -> [u8; 256]
-    ensures { Listed result }
-{
-    CLASS
+// What begins with a byte.
+#[derive(Clone, Copy, Debug, PartialEq, Eq)]
+pub(crate) enum Class {
+    White,
+    Digit,
+    // A letter or `_`.
+    Letter,
+    // Of the signs that begin with the byte, the longest.
+    Sign(Sign),
+    // No token.
+    Other,
 }
 
-// The class of a byte, by a table that lists it.
-pub(crate) fn class_of(table: &[u8; 256], b: u8) -> u8
-    requires { Listed table.now }
-    ensures { result ≡ class_of b }
+// The entry at each byte value.
+static CLASSES: [Class; 256] = [
+    // 0x00 to 0x0f
+    Other,
+    Other,
+    Other,
+    Other,
+    Other,
+    Other,
+    Other,
+    Other,
+    Other,
+    White, // tab
+    White, // line feed
+    Other,
+    Other,
+    White, // carriage return
+    Other,
+    Other,
+    // 0x10 to 0x1f
+    Other,
+    Other,
+    Other,
+    Other,
+    Other,
+    Other,
+    Other,
+    Other,
+    Other,
+    Other,
+    Other,
+    Other,
+    Other,
+    Other,
+    Other,
+    Other,
+    // 0x20 to 0x2f
+    White, // space
+    Class::Sign(Sign::Bang), // !
+    Other,
+    Other,
+    Other,
+    Other,
+    Class::Sign(Sign::Ampersand), // &
+    Other,
+    Class::Sign(Sign::LeftParen), // (
+    Class::Sign(Sign::RightParen), // )
+    Class::Sign(Sign::Star), // *
+    Other,
+    Class::Sign(Sign::Comma), // ,
+    Class::Sign(Sign::RightArrow), // -
+    Other,
+    Other,
+    // 0x30 to 0x3f
+    Digit, // 0
+    Digit, // 1
+    Digit, // 2
+    Digit, // 3
+    Digit, // 4
+    Digit, // 5
+    Digit, // 6
+    Digit, // 7
+    Digit, // 8
+    Digit, // 9
+    Class::Sign(Sign::Colon), // :
+    Class::Sign(Sign::Semicolon), // ;
+    Class::Sign(Sign::LeftArrow), // <
+    Class::Sign(Sign::DoubleEquals), // =
+    Other,
+    Other,
+    // 0x40 to 0x4f
+    Class::Sign(Sign::At), // @
+    Letter, // A
+    Letter, // B
+    Letter, // C
+    Letter, // D
+    Letter, // E
+    Letter, // F
+    Letter, // G
+    Letter, // H
+    Letter, // I
+    Letter, // J
+    Letter, // K
+    Letter, // L
+    Letter, // M
+    Letter, // N
+    Letter, // O
+    // 0x50 to 0x5f
+    Letter, // P
+    Letter, // Q
+    Letter, // R
+    Letter, // S
+    Letter, // T
+    Letter, // U
+    Letter, // V
+    Letter, // W
+    Letter, // X
+    Letter, // Y
+    Letter, // Z
+    Class::Sign(Sign::LeftBracket), // [
+    Other,
+    Class::Sign(Sign::RightBracket), // ]
+    Other,
+    Letter, // _
+    // 0x60 to 0x6f
+    Other,
+    Letter, // a
+    Letter, // b
+    Letter, // c
+    Letter, // d
+    Letter, // e
+    Letter, // f
+    Letter, // g
+    Letter, // h
+    Letter, // i
+    Letter, // j
+    Letter, // k
+    Letter, // l
+    Letter, // m
+    Letter, // n
+    Letter, // o
+    // 0x70 to 0x7f
+    Letter, // p
+    Letter, // q
+    Letter, // r
+    Letter, // s
+    Letter, // t
+    Letter, // u
+    Letter, // v
+    Letter, // w
+    Letter, // x
+    Letter, // y
+    Letter, // z
+    Class::Sign(Sign::LeftBrace), // {
+    Class::Sign(Sign::DoubleBar), // |
+    Class::Sign(Sign::RightBrace), // }
+    Other,
+    Other,
+    // 0x80 to 0x8f
+    Other,
+    Other,
+    Other,
+    Other,
+    Other,
+    Other,
+    Other,
+    Other,
+    Other,
+    Other,
+    Other,
+    Other,
+    Other,
+    Other,
+    Other,
+    Other,
+    // 0x90 to 0x9f
+    Other,
+    Other,
+    Other,
+    Other,
+    Other,
+    Other,
+    Other,
+    Other,
+    Other,
+    Other,
+    Other,
+    Other,
+    Other,
+    Other,
+    Other,
+    Other,
+    // 0xa0 to 0xaf
+    Other,
+    Other,
+    Other,
+    Other,
+    Other,
+    Other,
+    Other,
+    Other,
+    Other,
+    Other,
+    Other,
+    Other,
+    Other,
+    Other,
+    Other,
+    Other,
+    // 0xb0 to 0xbf
+    Other,
+    Other,
+    Other,
+    Other,
+    Other,
+    Other,
+    Other,
+    Other,
+    Other,
+    Other,
+    Other,
+    Other,
+    Other,
+    Other,
+    Other,
+    Other,
+    // 0xc0 to 0xcf
+    Other,
+    Other,
+    Other,
+    Other,
+    Other,
+    Other,
+    Other,
+    Other,
+    Other,
+    Other,
+    Other,
+    Other,
+    Other,
+    Other,
+    Other,
+    Other,
+    // 0xd0 to 0xdf
+    Other,
+    Other,
+    Other,
+    Other,
+    Other,
+    Other,
+    Other,
+    Other,
+    Other,
+    Other,
+    Other,
+    Other,
+    Other,
+    Other,
+    Other,
+    Other,
+    // 0xe0 to 0xef
+    Other,
+    Other,
+    Other,
+    Other,
+    Other,
+    Other,
+    Other,
+    Other,
+    Other,
+    Other,
+    Other,
+    Other,
+    Other,
+    Other,
+    Other,
+    Other,
+    // 0xf0 to 0xff
+    Other,
+    Other,
+    Other,
+    Other,
+    Other,
+    Other,
+    Other,
+    Other,
+    Other,
+    Other,
+    Other,
+    Other,
+    Other,
+    Other,
+    Other,
+    Other,
+];
+
+pub(crate) fn class_of(b: u8) -> Class
+    ensures { class_number result ≡ class_of b }
 {
-    table[b as usize]
+    CLASSES[b as usize]
+}
+
+pub(crate) fn is_white(b: u8) -> bool
+    ensures { result ≡ is_white b }
+{
+    matches!(class_of(b), White)
+}
+
+pub(crate) fn is_digit(b: u8) -> bool
+    ensures { result ≡ is_digit b }
+{
+    matches!(class_of(b), Digit)
+}
+
+// Whether a name can go on with the byte.
+pub(crate) fn is_name_byte(b: u8) -> bool
+    ensures { result ≡ is_name_byte b }
+{
+    matches!(class_of(b), Letter | Digit)
 }

@@ -2,55 +2,64 @@
 // What a token is stands in specs/Tokens.antt, and specs/Shown.antt says what the types here stand for in its terms.
 #![tactic(auto)]
 
-ghost use Rattle.std.specs.Prelude.{◌≡◌, ◌&&◌, ℕ, ◌+◌, ◌<◌, ◌≤◌, List, length, get_or, drop};
-ghost use Rattle.lexer.specs.Bytes.{same, lookup, run, is_digit, is_name_byte};
-ghost use Rattle.lexer.specs.Classes.{Listed, begins, class_of, in_classes};
-ghost use Rattle.lexer.specs.Tokens.{entries, rule_words, or_name, knot, name_token, number_token, sign_token, token_at};
-ghost use Rattle.lexer.specs.Shown.{limit_words, reserved_shown, kind_shown, shown};
+ghost use Rattle.std.specs.Prelude.{◌≡◌, ◌&&◌, ℕ, Bool, ◌+◌, ◌^◌, ◌<◌, ◌≤◌, List, length, get_or, drop, MatchOption};
+ghost use Rattle.lexer.specs.Bytes.{bytes, same, lookup, run, is_digit, is_name_byte};
+ghost use Rattle.lexer.specs.Classes.{begins, class_of};
+ghost use Rattle.lexer.specs.Inner.{Computes, second_byte};
+ghost use Rattle.lexer.specs.Tokens.{spelling, entries, rule_words, or_name, knot, value_from, name_token, number_token, sign_token, token_at};
+ghost use Rattle.lexer.specs.Shown.{sign_number, word_shown, is_reserved, reserved_shown, kind_shown, shown};
 
 mod classes;
 
-use classes::{DIGIT, LETTER, SIGN, WHITE, class_of, class_table};
+use classes::{Class, class_of, is_digit, is_name_byte, is_white};
 
-// The signs, by their numbers in the order of T6.
-pub const SEMICOLON: u8 = 0;
+/// The signs, in the order of T6.
+#[derive(Clone, Copy, Debug, PartialEq, Eq)]
+pub enum Sign {
+    Semicolon,
+    Comma,
+    At,
+    Star,
+    Ampersand,
+    Bang,
+    LeftParen,
+    RightParen,
+    LeftBracket,
+    RightBracket,
+    LeftBrace,
+    RightBrace,
+    Colon,
+    Equals,
+    DoubleEquals,
+    DoubleBar,
+    RightArrow,
+    LeftArrow,
+}
 
-pub const COMMA: u8 = 1;
+impl Sign {
+    /// The sign's number in the order of T6, from 0.
+    pub fn number(self) -> u8
+        ensures { result ≡ sign_number self }
+    {
+        self as u8
+    }
 
-pub const AT: u8 = 2;
+    // The second byte of a sign of two bytes.
+    fn second(self) -> Option<u8>
+        ensures { result ≡ second_byte self }
+    {
+        match self {
+            Sign::DoubleEquals => Some(b'='),
+            Sign::DoubleBar => Some(b'|'),
+            Sign::RightArrow => Some(b'>'),
+            Sign::LeftArrow => Some(b'-'),
+            _ => None,
+        }
+    }
+}
 
-pub const STAR: u8 = 3;
-
-pub const AMPERSAND: u8 = 4;
-
-pub const BANG: u8 = 5;
-
-pub const LEFT_PAREN: u8 = 6;
-
-pub const RIGHT_PAREN: u8 = 7;
-
-pub const LEFT_BRACKET: u8 = 8;
-
-pub const RIGHT_BRACKET: u8 = 9;
-
-pub const LEFT_BRACE: u8 = 10;
-
-pub const RIGHT_BRACE: u8 = 11;
-
-pub const COLON: u8 = 12;
-
-pub const EQUALS: u8 = 13;
-
-pub const DOUBLE_EQUALS: u8 = 14;
-
-pub const DOUBLE_BAR: u8 = 15;
-
-pub const RIGHT_ARROW: u8 = 16;
-
-pub const LEFT_ARROW: u8 = 17;
-
-// The words that can be reserved.
-#[derive(Clone, Copy)]
+/// The words that can be reserved.
+#[derive(Clone, Copy, Debug, PartialEq, Eq)]
 pub enum Word {
     Input,
     Internal,
@@ -62,8 +71,38 @@ pub enum Word {
     In,
 }
 
-// The list of reserved words that reading is given: those whose flag is set.
-#[derive(Clone, Copy)]
+// In the order in which a name is compared with them.
+const WORDS: [Word; 8] = [
+    Word::Input,
+    Word::Internal,
+    Word::Define,
+    Word::Monitor,
+    Word::Past,
+    Word::Limit,
+    Word::To,
+    Word::In,
+];
+
+impl Word {
+    /// How the word is written.
+    pub fn spelling(self) -> &'static str
+        ensures { result.now ≡ bytes (spelling (word_shown self)) }
+    {
+        match self {
+            Word::Input => "input",
+            Word::Internal => "internal",
+            Word::Define => "define",
+            Word::Monitor => "monitor",
+            Word::Past => "past",
+            Word::Limit => "limit",
+            Word::To => "to",
+            Word::In => "in",
+        }
+    }
+}
+
+/// The list of reserved words that reading is given: those whose flag is set.
+#[derive(Clone, Copy, Debug, PartialEq, Eq)]
 pub struct Reserved {
     pub input: bool,
     pub internal: bool,
@@ -75,7 +114,25 @@ pub struct Reserved {
     pub inside: bool,
 }
 
-// What a rule text reserves.
+impl Reserved {
+    /// Whether the word is in the list.
+    pub fn contains(self, word: Word) -> bool
+        ensures { result ≡ is_reserved self word }
+    {
+        match word {
+            Word::Input => self.input,
+            Word::Internal => self.internal,
+            Word::Define => self.define,
+            Word::Monitor => self.monitor,
+            Word::Past => self.past,
+            Word::Limit => self.limit,
+            Word::To => self.to,
+            Word::In => self.inside,
+        }
+    }
+}
+
+/// What a rule text reserves.
 pub fn rule_words() -> Reserved
     ensures { reserved_shown result ≡ rule_words }
 {
@@ -91,21 +148,21 @@ pub fn rule_words() -> Reserved
     }
 }
 
-#[derive(Clone, Copy)]
+/// What stands at a place.
+#[derive(Clone, Copy, Debug, PartialEq, Eq)]
 pub enum Kind {
     Name,
     Word(Word),
     Number(u64),
-    // One of the numbers above.
-    Sign(u8),
+    Sign(Sign),
     End,
     // T7: no token, or a name or number too long.
     Knot,
 }
 
-// A token of a text: its first byte has the place `place`, and its bytes are those from `place` up to `after`.
-// The end and a knot take no byte: `after` is `place`.
-#[derive(Clone, Copy)]
+/// A token of a text: its first byte has the place `place`, and its bytes are those from `place` up to `after`.
+/// The end and a knot take no byte: `after` is `place`.
+#[derive(Clone, Copy, Debug, PartialEq, Eq)]
 pub struct Token {
     pub kind: Kind,
     pub place: usize,
@@ -115,94 +172,45 @@ pub struct Token {
 // The most bytes that a name may have.
 const LONGEST_NAME: usize = 16;
 
-// 2^64 - 1.
-const LARGEST_NUMBER: u64 = 18446744073709551615;
-
-// The second byte of each sign of two bytes, from DOUBLE_EQUALS on.
-const SECOND: [u8; 4] = [b'=', b'|', b'>', b'-'];
-
-// Where the run of bytes of the classes from `low` to `high` ends that begins at `from`.
-fn run_end(table: &[u8; 256], text: &[u8], from: usize, low: u8, high: u8) -> usize
-    requires { Listed table.now }
-    ensures { result ≡ from + length (run (in_classes low high) (drop from text.now)) }
-{
-    let mut i = from;
-    while i < text.len() {
-        let class = class_of(table, text[i]);
-        if class < low {
-            return i;
-        }
-        if high < class {
-            return i;
-        }
-        i += 1;
-    }
-    i
-}
-
-// Whether two slices hold the same bytes.
+/// Whether two slices hold the same bytes.
 pub fn equal(a: &[u8], b: &[u8]) -> bool
     ensures { result ≡ same a.now b.now }
 {
-    if a.len() != b.len() {
-        return false;
-    }
-    let mut i = 0;
-    while i < a.len() {
-        if a[i] != b[i] {
-            return false;
+    a == b
+}
+
+// Where the run of bytes that pass the test ends that begins at `from`.
+fn run_end<P: Fn(u8) -> bool>(text: &[u8], from: usize, passes: P) -> usize
+    requires from_in_bounds { from ≤ length text.now }
+    requires callable { P.IsAlwaysCallable passes }
+    ensures within { (from ≤ result) × (result ≤ length text.now) }
+    ensures ends { (test : ℕ → Bool) → Computes (P.post passes) test → result ≡ from + length (run test (drop from text.now)) }
+{
+    for (i, b) in text[from..].iter().enumerate() {
+        if !passes(*b) {
+            return from + i;
         }
-        i += 1;
     }
-    true
+    text.len()
 }
 
 // Whether a word is reserved and `name` spells it.
-fn is_word(reserved: bool, spelling: &[u8], name: &[u8]) -> bool
-    ensures { result ≡ (reserved && same name.now spelling.now) }
+fn is_word(reserved: Reserved, word: Word, name: &[u8]) -> bool
+    ensures { result ≡ (is_reserved reserved word && same name.now (bytes (spelling (word_shown word)))) }
 {
-    if !reserved {
-        return false;
-    }
-    equal(name, spelling)
-}
-
-// Which of the words of a limit the bytes are, or a name.
-fn limit_kind(reserved: Reserved, name: &[u8]) -> Kind
-    ensures { kind_shown name.now result ≡ or_name name.now (lookup name.now (entries (limit_words reserved))) }
-{
-    if is_word(reserved.limit, b"limit", name) {
-        return Kind::Word(Word::Limit);
-    }
-    if is_word(reserved.to, b"to", name) {
-        return Kind::Word(Word::To);
-    }
-    if is_word(reserved.inside, b"in", name) {
-        return Kind::Word(Word::In);
-    }
-    Kind::Name
+    reserved.contains(word) && equal(name, word.spelling().as_bytes())
 }
 
 // Which reserved word the bytes are, or a name.
 fn name_kind(reserved: Reserved, name: &[u8]) -> Kind
     ensures { kind_shown name.now result ≡ or_name name.now (lookup name.now (entries (reserved_shown reserved))) }
 {
-    if is_word(reserved.input, b"input", name) {
-        return Kind::Word(Word::Input);
+    for word in WORDS {
+        if is_word(reserved, word, name) {
+            return Kind::Word(word);
+        }
     }
-    if is_word(reserved.internal, b"internal", name) {
-        return Kind::Word(Word::Internal);
-    }
-    if is_word(reserved.define, b"define", name) {
-        return Kind::Word(Word::Define);
-    }
-    if is_word(reserved.monitor, b"monitor", name) {
-        return Kind::Word(Word::Monitor);
-    }
-    if is_word(reserved.past, b"past", name) {
-        return Kind::Word(Word::Past);
-    }
-    limit_kind(reserved, name)
+    Kind::Name
 }
 
 // A knot whose first byte is at `place`.
@@ -217,51 +225,48 @@ fn knot_at(place: usize) -> Token
 }
 
 // The name or the reserved word at `place`.
-fn name_at(reserved: Reserved, table: &[u8; 256], text: &[u8], place: usize) -> Token
-    requires listed { Listed table.now }
-    requires place_in_bounds { place ≤ length text.now }
+fn name_at(reserved: Reserved, text: &[u8], place: usize) -> Token
+    requires { place ≤ length text.now }
     ensures { shown text.now result ≡ name_token (reserved_shown reserved) place (run is_name_byte (drop place text.now)) }
 {
-    let after = run_end(table, text, place, DIGIT, LETTER);
+    let after = run_end(text, place, is_name_byte);
     if LONGEST_NAME < after - place {
         return knot_at(place);
     }
-    let name = &text[place..after];
     Token {
-        kind: name_kind(reserved, name),
+        kind: name_kind(reserved, &text[place..after]),
         place,
         after,
     }
 }
 
-// The number at `place`.
-fn number_at(table: &[u8; 256], text: &[u8], place: usize) -> Token
-    requires listed { Listed table.now }
-    requires place_in_bounds { place ≤ length text.now }
-    ensures { shown text.now result ≡ number_token place (run is_digit (drop place text.now)) }
+// The value of digits, if it is below 2^64.
+fn value_of(digits: &[u8]) -> Option<u64>
+    requires { run is_digit digits.now ≡ digits.now }
+    ensures { MatchOption result (2 ^ 64 ≤ value_from 0 digits.now) (λ v. v ≡ value_from 0 digits.now) }
 {
     let mut value: u64 = 0;
-    let mut i = place;
-    while i < text.len() {
-        let b = text[i];
-        if class_of(table, b) != DIGIT {
-            return Token {
-                kind: Kind::Number(value),
-                place,
-                after: i,
-            };
-        }
-        let digit = (b - b'0') as u64;
-        if (LARGEST_NUMBER - digit) / 10 < value {
-            return knot_at(place);
-        }
-        value = value * 10 + digit;
-        i += 1;
+    for digit in digits {
+        value = value
+            .checked_mul(10)?
+            .checked_add(u64::from(*digit - b'0'))?;
     }
-    Token {
-        kind: Kind::Number(value),
-        place,
-        after: i,
+    Some(value)
+}
+
+// The number at `place`.
+fn number_at(text: &[u8], place: usize) -> Token
+    requires { place ≤ length text.now }
+    ensures { shown text.now result ≡ number_token place (run is_digit (drop place text.now)) }
+{
+    let after = run_end(text, place, is_digit);
+    match value_of(&text[place..after]) {
+        Some(value) => Token {
+            kind: Kind::Number(value),
+            place,
+            after,
+        },
+        None => knot_at(place),
     }
 }
 
@@ -269,40 +274,32 @@ fn number_at(table: &[u8; 256], text: &[u8], place: usize) -> Token
 fn next_is(text: &[u8], at: usize, b: u8) -> bool
     ensures { result ≡ begins b (drop at text.now) }
 {
-    if at < text.len() {
-        return text[at] == b;
-    }
-    false
+    at < text.len() && text[at] == b
 }
 
-// The sign at `place`, where `class` is the class of the byte there.
-fn sign_at(text: &[u8], place: usize, class: u8) -> Token
+// The sign at `place`, where `longest` is the longest that begins with the byte there.
+fn sign_at(text: &[u8], place: usize, longest: Sign) -> Token
     requires place_in_bounds { place < length text.now }
-    requires class_value { class ≡ class_of (get_or text.now place 0) }
+    requires begins { 4 + sign_number longest ≡ class_of (get_or text.now place 0) }
     ensures { shown text.now result ≡ sign_token place (drop place text.now) }
 {
-    if class < SIGN {
-        return knot_at(place);
-    }
-    let sign = class - SIGN;
-    if sign < DOUBLE_EQUALS {
+    let Some(second) = longest.second() else {
         return Token {
-            kind: Kind::Sign(sign),
+            kind: Kind::Sign(longest),
             place,
             after: place + 1,
         };
-    }
-    let second = SECOND[(sign - DOUBLE_EQUALS) as usize];
+    };
     if next_is(text, place + 1, second) {
         return Token {
-            kind: Kind::Sign(sign),
+            kind: Kind::Sign(longest),
             place,
             after: place + 2,
         };
     }
-    if sign == DOUBLE_EQUALS {
+    if longest == Sign::DoubleEquals {
         return Token {
-            kind: Kind::Sign(EQUALS),
+            kind: Kind::Sign(Sign::Equals),
             place,
             after: place + 1,
         };
@@ -310,12 +307,12 @@ fn sign_at(text: &[u8], place: usize, class: u8) -> Token
     knot_at(place)
 }
 
-// The token at a position of a text, after white space, by a table that lists the classes. Past the end it is the end, at the text's length.
-fn token_by(reserved: Reserved, table: &[u8; 256], text: &[u8], at: usize) -> Token
-    requires { Listed table.now }
+/// The token at a position of a text, after white space, where these words are reserved.
+/// Past the end it is the end, at the text's length.
+pub fn token_at(reserved: Reserved, text: &[u8], at: usize) -> Token
     ensures { shown text.now result ≡ token_at (reserved_shown reserved) text.now at }
 {
-    let place = run_end(table, text, at, WHITE, WHITE);
+    let place = run_end(text, at.min(text.len()), is_white);
     if text.len() <= place {
         return Token {
             kind: Kind::End,
@@ -323,20 +320,10 @@ fn token_by(reserved: Reserved, table: &[u8; 256], text: &[u8], at: usize) -> To
             after: text.len(),
         };
     }
-    let class = class_of(table, text[place]);
-    if class == DIGIT {
-        return number_at(table, text, place);
+    match class_of(text[place]) {
+        Class::Digit => number_at(text, place),
+        Class::Letter => name_at(reserved, text, place),
+        Class::Sign(longest) => sign_at(text, place, longest),
+        Class::White | Class::Other => knot_at(place),
     }
-    if class == LETTER {
-        return name_at(reserved, table, text, place);
-    }
-    sign_at(text, place, class)
-}
-
-// The token at a position of a text in which these words are reserved.
-pub fn token_at(reserved: Reserved, text: &[u8], at: usize) -> Token
-    ensures { shown text.now result ≡ token_at (reserved_shown reserved) text.now at }
-{
-    let table = class_table();
-    token_by(reserved, &table, text, at)
 }

@@ -7,7 +7,6 @@ ghost use Rattle.lexer.specs.Shown.{word_shown, kind_shown};
 ghost use Rattle.lexer_bench.specs.Checksum.{word_weight, weight, bare, plus, checksum};
 
 use lexer::{Kind, Token, Word};
-use std::num::wrapping_add_u64;
 
 // What a token weighs, whichever bytes it has.
 fn weigh_word(w: Word) -> u64
@@ -32,7 +31,7 @@ fn weigh(k: Kind) -> u64
         Kind::Name => 1,
         Kind::Word(w) => weigh_word(w),
         Kind::Number(n) => n,
-        Kind::Sign(n) => n as u64,
+        Kind::Sign(sign) => u64::from(sign.number()),
         Kind::End => 6,
         Kind::Knot => 7,
     }
@@ -42,23 +41,15 @@ fn weigh(k: Kind) -> u64
 fn goes_on(k: Kind) -> bool
     ensures { result ≡ goes_on (kind_shown [] k) }
 {
-    match k {
-        Kind::End => false,
-        Kind::Knot => false,
-        Kind::Name => true,
-        Kind::Word(_) => true,
-        Kind::Number(_) => true,
-        Kind::Sign(_) => true,
-    }
+    !matches!(k, Kind::End | Kind::Knot)
 }
 
 fn add(sum: u64, t: Token) -> u64
     ensures { result ≡ plus sum (bare t) }
 {
-    let k = t.kind;
-    let weighed = wrapping_add_u64(sum, weigh(k));
-    let placed = wrapping_add_u64(weighed, t.place as u64);
-    wrapping_add_u64(placed, t.after as u64)
+    sum.wrapping_add(weigh(t.kind))
+        .wrapping_add(t.place as u64)
+        .wrapping_add(t.after as u64)
 }
 
 #[unsafe(no_mangle)]
@@ -70,8 +61,7 @@ pub extern "C" fn lexer_bench_checksum(text: &[u8]) -> u64
     loop {
         let t = lexer::token_at(lexer::rule_words(), text, at);
         sum = add(sum, t);
-        let k = t.kind;
-        if !goes_on(k) {
+        if !goes_on(t.kind) {
             return sum;
         }
         at = t.after;

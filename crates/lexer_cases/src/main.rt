@@ -5,125 +5,69 @@
 
 ghost use Rattle.std.specs.Prelude.{◌≤◌, length, IfOk};
 
-use lexer::{Kind, Token, Word, rule_words, token_at};
-use std::io;
+use lexer::{Kind, Token, rule_words, token_at};
 use std::io::Read;
+use std::{fmt, io};
 
 const CLOSE: u8 = b'$';
 
-fn print(rt: &impl Print, text: &str) -> io::Result<()> {
-    print!(rt; "{text}")
-}
+// A kind as it is printed.
+#[derive(Clone, Copy)]
+struct KindText(Kind);
 
-fn print_number(rt: &impl Print, n: u64) -> io::Result<()> {
-    print!(rt; "{n}")
-}
-
-fn print_word(rt: &impl Print, w: Word) -> io::Result<()> {
-    match w {
-        Word::Input => print(rt, "input"),
-        Word::Internal => print(rt, "internal"),
-        Word::Define => print(rt, "define"),
-        Word::Monitor => print(rt, "monitor"),
-        Word::Past => print(rt, "past"),
-        Word::Limit => print(rt, "limit"),
-        Word::To => print(rt, "to"),
-        Word::In => print(rt, "in"),
+impl fmt::Display for KindText {
+    fn fmt<W: fmt::Write>(&self, f: &mut fmt::Formatter<W>) -> fmt::Result {
+        match self.0 {
+            Kind::Name => write!(f, "name"),
+            Kind::Word(word) => write!(f, "{}", word.spelling()),
+            Kind::Number(value) => write!(f, "number {value}"),
+            Kind::Sign(sign) => write!(f, "sign {}", sign.number()),
+            Kind::End => write!(f, "end"),
+            Kind::Knot => write!(f, "knot"),
+        }
     }
 }
 
-fn print_kind(rt: &impl Print, k: Kind) -> io::Result<()> {
-    match k {
-        Kind::Name => print(rt, "name"),
-        Kind::Word(w) => print_word(rt, w),
-        Kind::Number(n) => {
-            print(rt, "number ")?;
-            print_number(rt, n)
-        }
-        Kind::Sign(n) => {
-            print(rt, "sign ")?;
-            print_number(rt, n as u64)
-        }
-        Kind::End => print(rt, "end"),
-        Kind::Knot => print(rt, "knot"),
-    }
-}
+// Where a token lies, as it is printed.
+#[derive(Clone, Copy)]
+struct Places(Token);
 
-fn print_places(rt: &impl Print, t: Token) -> io::Result<()> {
-    print_number(rt, t.place as u64)?;
-    print(rt, "-")?;
-    print_number(rt, t.after as u64)
-}
-
-// Whether the token is the last that is read.
-fn is_last(k: Kind) -> bool {
-    match k {
-        Kind::End => true,
-        Kind::Knot => true,
-        Kind::Name => false,
-        Kind::Word(_) => false,
-        Kind::Number(_) => false,
-        Kind::Sign(_) => false,
+impl fmt::Display for Places {
+    fn fmt<W: fmt::Write>(&self, f: &mut fmt::Formatter<W>) -> fmt::Result {
+        write!(f, "{}-{}", self.0.place, self.0.after)
     }
 }
 
 // The tokens of a text, of which there are at most its bytes and the last.
 fn print_tokens(rt: &impl Print, text: &[u8]) -> io::Result<()> {
     let mut at = 0;
-    let mut turns = 0;
-    while turns <= text.len() {
+    for _ in 0..=text.len() {
         let t = token_at(rule_words(), text, at);
-        let k = t.kind;
-        print_places(rt, t)?;
-        print(rt, " ")?;
-        print_kind(rt, k)?;
-        if is_last(k) {
+        print!(rt; "{} {}", Places(t), KindText(t.kind))?;
+        if matches!(t.kind, Kind::End | Kind::Knot) {
             return Ok(());
         }
-        print(rt, ", ")?;
+        print!(rt; ", ")?;
         at = t.after;
-        turns += 1;
     }
     Ok(())
 }
 
 // Where the token lies that is read from each position.
 fn print_positions(rt: &impl Print, text: &[u8]) -> io::Result<()> {
-    let mut at = 0;
-    while at <= text.len() {
-        print(rt, "  ")?;
-        print_places(rt, token_at(rule_words(), text, at))?;
-        at += 1;
+    for at in 0..=text.len() + 1 {
+        print!(rt; "  {}", Places(token_at(rule_words(), text, at)))?;
     }
-    print(rt, "  ")?;
-    print_places(rt, token_at(rule_words(), text, at))
-}
-
-// Where the text ends that begins at `from`.
-fn case_end(all: &[u8], from: usize) -> usize
-    requires { from ≤ length all.now }
-    ensures { (from ≤ result) × (result ≤ length all.now) }
-{
-    let mut i = from;
-    while i < all.len() {
-        if all[i] == CLOSE {
-            return i;
-        }
-        i += 1;
-    }
-    i
+    Ok(())
 }
 
 fn run_cases(rt: &impl Print, all: &[u8]) -> io::Result<()> {
-    let mut from = 0;
-    while from < all.len() {
-        let to = case_end(all, from);
-        let text = &all[from..to];
+    for part in all.split_inclusive(|b| *b == CLOSE) {
+        let text = part.strip_suffix(&[CLOSE]).unwrap_or(part);
         print_tokens(rt, text)?;
-        print(rt, "\n")?;
+        print!(rt; "\n")?;
         print_positions(rt, text)?;
-        print(rt, "\n")?;
-        from = to + 1;
+        print!(rt; "\n")?;
     }
     Ok(())
 }
@@ -134,6 +78,7 @@ fn read_full(rt: &impl Input, buf: &mut [u8]) -> io::Result<usize>
 {
     let mut reader = rt.reader();
     let mut done = 0;
+    // a loop over short reads: no heap, so no `read_to_end`, and `read_exact` does not say how many bytes came
     while done < buf.len() {
         let n = reader.read(&mut buf[done..])?;
         if n == 0 {

@@ -5,7 +5,7 @@
 // one that was interrupted is made again. A standard output that takes no more ends the program at the next line, without a word.
 #![tactic(auto)]
 
-ghost use Rattle.std.specs.Prelude.{◌≡◌, ◌≤◌, length};
+ghost use Rattle.std.specs.Prelude.{◌≡◌, ◌≤◌, length, IfSome};
 
 use rules::Watch;
 use sheet::{begin, finish, run};
@@ -16,26 +16,25 @@ use std::rt::Files;
 // More reads than any trace takes, since the program is proved to end. A record has at most 9 bytes, and the one behind 1,000,000
 // ticks ends every sheet: a recorder that gives one byte at a time is asked at most 9,000,009 times, the empty read at the end of
 // its trace among them. That leaves 999,991 reads that may be interrupted.
-const READS: usize = 10000000;
+const READS: usize = 10_000_000;
 
 fn main(rt: HostRuntime) {
-    let mut text = text_room();
-    let long = read_file(&rt, "rules.txt", &mut text);
-    if 16385 < long {
-        return;
-    }
+    let _ = watch(&rt);
+}
+
+// The program, until its end or until the standard output takes no more.
+fn watch<R: Files + Print>(rt: &R) -> Option<()> {
+    let mut room = text_room();
+    let text = read_file(rt, "rules.txt", &mut room);
     let mut line = [0u8; 128];
-    let begun = begin(&text[0..long], &mut line);
-    if !print(&rt, &line, begun.at) {
-        return;
-    }
+    let begun = begin(text, &mut line);
+    print(rt, &line, begun.at)?;
     if begun.ended {
-        return;
+        return Some(());
     }
-    let watch = begun.watch;
-    match fs::open(&rt, "trace.bin") {
-        Ok(mut trace) => watch_trace(&rt, &mut trace, watch),
-        Err(_) => end(&rt, watch, 0),
+    match fs::open(rt, "trace.bin") {
+        Ok(mut trace) => watch_trace(rt, &mut trace, begun.watch),
+        Err(_) => end(rt, begun.watch, 0),
     }
 }
 
@@ -66,6 +65,7 @@ fn read_full(input: &mut impl Read, buffer: &mut [u8]) -> usize
     ensures { result ≤ length buffer.new }
 {
     let mut done: usize = 0;
+    // a position by hand: a read gives as many bytes as it likes
     while done < buffer.len() {
         match input.read(&mut buffer[done..]) {
             Ok(0) | Err(_) => break,
@@ -75,104 +75,75 @@ fn read_full(input: &mut impl Read, buffer: &mut [u8]) -> usize
     done
 }
 
-// Fills the buffer from a file: how many bytes there were.
-fn read_file(rt: &impl Files, name: &str, buffer: &mut [u8]) -> usize
-    ensures { result ≤ length buffer.new }
-{
+// What is read from a file into the buffer.
+fn read_file<'a>(rt: &impl Files, name: &str, buffer: &'a mut [u8]) -> &'a [u8] {
     match fs::open(rt, name) {
-        Ok(mut file) => read_full(&mut file, buffer),
-        Err(_) => 0,
+        Ok(mut file) => {
+            let count = read_full(&mut file, buffer);
+            &buffer[..count]
+        }
+        Err(_) => &buffer[..0],
     }
 }
 
-// Prints the first bytes of a buffer: whether they were taken.
-fn print(rt: &impl Print, bytes: &[u8], count: usize) -> bool {
-    if bytes.len() < count {
-        return false;
-    }
-    rt.write_all(&bytes[0..count]).is_ok()
+// Prints the first bytes of a buffer: nothing where they are not there or not taken.
+fn print(rt: &impl Print, bytes: &[u8], count: usize) -> Option<()> {
+    rt.write_all(bytes.get(..count)?).ok()
 }
 
-// What a read came to: how many bytes there are then, and whether no more come.
-#[derive(Drop)]
-struct Filled {
-    all: usize,
-    ended: bool,
-}
-
-// Reads once, behind the bytes that were kept. A read that was interrupted gives nothing, and more may come.
-fn fill(trace: &mut impl Read, buffer: &mut [u8], kept: usize) -> Filled {
+// Reads once, behind the bytes that were kept: how many bytes there are then, or nothing where no more come. A read that was
+// interrupted gives nothing, and more may come.
+fn fill(trace: &mut impl Read, buffer: &mut [u8], kept: usize) -> Option<usize>
+    ensures { IfSome result (λ all. all ≤ length buffer.new) }
+{
     if buffer.len() < kept {
-        return Filled {
-            all: kept,
-            ended: true,
-        };
+        return None;
     }
     match trace.read(&mut buffer[kept..]) {
-        Ok(got) => Filled {
-            all: kept + got,
-            ended: got == 0,
-        },
-        Err(error) => Filled {
-            all: kept,
-            ended: error.kind() != ErrorKind::Interrupted,
-        },
+        Ok(0) => None,
+        Ok(got) => Some(kept + got),
+        Err(error) if error.kind() == ErrorKind::Interrupted => Some(kept),
+        Err(_) => None,
     }
 }
 
 // Moves the bytes from `used` up to `all`, a cut record or none, to the front of the buffer: how many there are.
 fn keep(buffer: &mut [u8], used: usize, all: usize) -> usize {
-    if buffer.len() < all {
+    if buffer.len() < all || all < used {
         return 0;
     }
-    if all < used {
-        return 0;
-    }
-    let count = all - used;
-    let mut i: usize = 0;
-    while i < count {
-        buffer[i] = buffer[used + i];
-        i += 1;
-    }
-    count
+    buffer.copy_within(used..all, 0);
+    all - used
 }
 
 // Runs the watch over a trace, read by read. A run takes the watch by value and lays out its tables, 4 to 6 µs for each read,
 // however much it gave: little beside the lines of 4,096 bytes, and most of the time where a recorder gives one byte at a time.
-fn watch_trace(rt: &impl Print, trace: &mut impl Read, watch: Watch) {
+fn watch_trace(rt: &impl Print, trace: &mut impl Read, watch: Watch) -> Option<()> {
     let mut now = watch;
     let mut before: u64 = 0;
+    // a length beside a buffer: no heap, fixed memory
     let mut buffer = trace_room();
-    let mut out = sheet_room();
     let mut kept: usize = 0;
-    let mut reads: usize = 0;
-    while reads < READS {
-        let filled = fill(trace, &mut buffer, kept);
-        if filled.ended {
+    let mut out = sheet_room();
+    for _ in 0..READS {
+        let Some(all) = fill(trace, &mut buffer, kept) else {
             break;
-        }
-        let all = filled.all;
-        if 4096 < all {
-            break;
-        }
-        let ran = run(now, before, &buffer[0..all], &mut out);
-        if !print(rt, &out, ran.at) {
-            return;
-        }
+        };
+        let ran = run(now, before, &buffer[..all], &mut out);
+        print(rt, &out, ran.at)?;
         if ran.ended {
-            return;
+            return Some(());
         }
         now = ran.watch;
         before = ran.before;
         kept = keep(&mut buffer, ran.used, all);
-        reads += 1;
     }
-    end(rt, now, kept);
+    end(rt, now, kept)
 }
 
 // Prints the last lines.
-fn end(rt: &impl Print, watch: Watch, left: usize) {
+fn end(rt: &impl Print, watch: Watch, left: usize) -> Option<()> {
     let mut lines = [0u8; 8192];
     let at = finish(watch, left, &mut lines);
-    print(rt, &lines, at);
+    print(rt, &lines, at)
 }

@@ -2,11 +2,8 @@
 use mathlib.Core.Path.{◌≡◌, refl, sym, ap, ap₂, ◌∙◌}
 use mathlib.Core.Bool.{Bool, true, false, cond}
 use mathlib.Core.List.{List, []}
-use Prim.Native.Nat.{ℕ, suc, ◌+◌, ◌<◌, ◌≤◌, min}
-use native.Mathlib.Omega.{arith}
-use borrow.Author.Tests.{lt-ltb, le-ltb}
-use lib.Dec.{ltb}
-use lib.ListN.{get_or, set, replicate}
+use Prim.Native.Nat.{ℕ, ◌<◌, min}
+use lib.ListN.{get_or}
 use Rattle.lexer.proofs.Bools.{taken, left}
 use Rattle.words.specs.Words.{quad}
 use Rattle.meaning.specs.Answers as meaning
@@ -15,29 +12,21 @@ use Rattle.meaning.specs.Fit.{ok as clean, bad as broken}
 use Rattle.meaning.specs.Calls.{Reply, ok, bad, refused, reply_of, touched_by, looked, took}
 use Rattle.meaning.proofs.ListLaws.{clash}
 use Rattle.rules.specs.declared.Watch.{Watch}
-use Rattle.rules.specs.declared.Outcome.{Outcome}
+use Rattle.std.specs.Prelude.{Result, Ok, Err, is_ok}
+use Rattle.rules.specs.declared.Counts.{Counts}
+use Rattle.rules.specs.declared.Refused.{Refused}
+use Rattle.rules.specs.declared.Refused.TheVariants.{AtByte, AtLetter}
 use Rattle.rules.specs.Watches.{watch_of, shown_outcome}
-use Rattle.counts.specs.Counts as counts
 use Rattle.monitor.specs.Letters.{Given}
-use Rattle.monitor.specs.Ticks.{Layout, letter_at, each_marked}
+use Rattle.monitor.specs.Ticks.{Layout}
 use Rattle.monitor.specs.Limited.{Stepped, stepped, answer_at, tick_of, is_bad, verdict_by}
-use Rattle.monitor.specs.Calls.{tables_of, layout_words, refused_by}
+use Rattle.monitor.specs.Calls.{refused_by}
 use Rattle.monitor.proofs.TickSteps.{number-refused, number-room, number-reached}
-use Rattle.live.specs.State.{marks_in, values_in, windows_in, state_in, with_marks, with_totals, with_values, with_windows, moved, halted}
-use Rattle.live.specs.Calls.{Words, layout_block, state_block, with_block, with_state, letters_in, wires_in, stores_in, first_state, filled, opened_in, judge_in, tick_in, reply_in, left_by, words_after, touched_with, touched_in, store_in, met_in}
-use Rattle.live.specs.Codes.{code_of, answer_code, open_code, is_open}
+use Rattle.live.specs.State.{marks_in, values_in, windows_in, state_in, moved, halted}
+use Rattle.live.specs.Calls.{Words, state_block, with_state, letters_in, wires_in, filled, opened_in, judge_in, tick_in, reply_in, left_by, words_after, touched_with, touched_in}
+use Rattle.live.specs.Codes.{code_of, answer_code, is_open}
 
 -- ---- opening
-
-pub first_by : (K σ X S₁ S₂ S₃ : List ℕ) → S₁ ≡ with_marks K (replicate 1024 0) → S₂ ≡ with_values σ S₁ → S₃ ≡ with_windows X S₂ → S₃ ≡ first_state K σ X
-unfolding each_marked
-first_by K σ X S₁ S₂ S₃ a b c = c ∙ ap (with_windows X) (b ∙ ap (with_values σ) a)
-
-pub filled-by : (v : Watch) (W : Words) (T C : List (List ℕ)) (L S : List ℕ) → T ≡ tables_of v → L ≡ layout_words v → C ≡ counts.counts_of v → S ≡ first_state v.marks v.values v.windows
-    → with_state S (with_block 2 (get_or C 1 []) (with_block 1 (get_or C 0 []) (with_block 0 L (set W 0 T)))) ≡ filled v W
-filled-by v W T C L S t l c s =
-    ap₂ (λ (A B : List (List ℕ)). with_state S (with_block 2 (get_or B 1 []) (with_block 1 (get_or B 0 []) (with_block 0 L (set W 0 A))))) t c
-    ∙ ap₂ (λ (A B : List ℕ). with_state B (with_block 2 (get_or (counts.counts_of v) 1 []) (with_block 1 (get_or (counts.counts_of v) 0 []) (with_block 0 A (set W 0 (tables_of v)))))) l s
 
 -- a text that is not accepted leaves the words, and an accepted one fills them
 pub refused-left : (x : meaning.Answer Opened) (W : Words) → is_open (counts_of x) ≡ false → W ≡ opened_in x W
@@ -117,28 +106,9 @@ pub touched-read : (W : Words) (K : List ℕ) (t : ℕ) → K ≡ marks_in (stat
 unfolding touched_in
 touched-read W K t p q = q ∙ ap (touched_with W) p
 
-pub moved_by_lem : (w l : ℕ) (K σ X S S₁ S₂ S₃ S₄ : List ℕ) → S₁ ≡ with_marks K (set (set S 2 w) 0 (get_or S 0 0 + 1)) → S₂ ≡ with_totals K (min l 256) S₁ → S₃ ≡ with_values σ S₂ → S₄ ≡ with_windows X S₃
-    → S₄ ≡ moved w (min l 256) K σ X S
-moved_by_lem w l K σ X S S₁ S₂ S₃ S₄ a b c d =
-    let e : get_or S 0 0 + 1 ≡ suc (get_or S 0 0) = omega arith in
-    d ∙ ap (with_windows X) (c ∙ ap (with_values σ) (b ∙ ap (with_totals K (min l 256)) (a ∙ ap (λ (t : ℕ). with_marks K (set (set S 2 w) 0 t)) e)))
+-- ---- an opening as a number
 
--- ---- what a watch holds
-
-pub no_store : (W : Words) (k n : ℕ) → n ≡ min (stores_in W) 16 → n ≤ k → 0 ≡ store_in W k
-no_store W k n e h = sym (left (ltb k (min (stores_in W) 16)) (get_or (state_block W) (16 + k) 0) 0 (le-ltb k (min (stores_in W) 16) (omega (arith, e, h))))
-
-pub a-store : (W : Words) (k n : ℕ) → n ≡ min (stores_in W) 16 → k < n → get_or (state_block W) (16 + k) 0 ≡ store_in W k
-a-store W k n e h = sym (taken (ltb k (min (stores_in W) 16)) (get_or (state_block W) (16 + k) 0) 0 (lt-ltb k (min (stores_in W) 16) (omega (arith, e, h))))
-
-pub none-met : (W : Words) (m l p : ℕ) → p ≡ letter_at (layout_block W) m l → 256 ≤ p → 0 ≡ met_in W m l
-none-met W m l p e h =
-    sym (left (ltb (letter_at (layout_block W) m l) 256) (get_or (state_block W) (320 + letter_at (layout_block W) m l) 0) 0 (le-ltb (letter_at (layout_block W) m l) 256 (omega (arith, e, h))))
-
-pub some-met : (W : Words) (m l p : ℕ) → p ≡ letter_at (layout_block W) m l → p < 256 → get_or (state_block W) (320 + p) 0 ≡ met_in W m l
-some-met W m l p e h =
-    ap (λ (k : ℕ). get_or (state_block W) (320 + k) 0) e
-    ∙ sym (taken (ltb (letter_at (layout_block W) m l) 256) (get_or (state_block W) (320 + letter_at (layout_block W) m l) 0) 0 (lt-ltb (letter_at (layout_block W) m l) 256 (omega (arith, e, h))))
-
-pub code_by : (o k : Outcome) (x : ℕ) → o ≡ k → x ≡ open_code (shown_outcome k) → x ≡ open_code (shown_outcome o)
-code_by o k x e q = q ∙ ap (λ (z : Outcome). open_code (shown_outcome z)) (sym e)
+pub open-is : (o : Result Counts Refused) → is_ok o ≡ is_open (shown_outcome o)
+open-is (Ok n) = refl
+open-is (Err (AtByte n p)) = refl
+open-is (Err (AtLetter n m l)) = refl

@@ -1,18 +1,18 @@
 -- What a good tick leaves in the block of a watch's state is read back as what it came to, part by part. Assumes nothing.
 use mathlib.Core.Path.{◌≡◌, refl, sym, ap, ap₂, ◌∙◌}
 use mathlib.Core.Bool.{Bool, true, false, cond}
-use mathlib.Core.List.{List, ◌++◌, append-nil}
+use mathlib.Core.List.{List, [], ◌∷◌, ◌++◌, append-nil}
 use Prim.Native.Nat.{ℕ, zero, suc, ◌+◌, ◌-◌, ◌*◌, ◌/◌, ◌%◌, ◌<◌, ◌≤◌, min}
 use native.Mathlib.Omega.{arith}
 use native.Mathlib.Decide.{dec_lt}
 use borrow.Author.Tests.{ne_eqb, eqb-false}
 use lib.Dec.{eqb}
 use lib.ListN.{length, length-take, length-drop, length-set, length-replicate, get_or, set, take, drop, replicate, drop_of_length-le}
-use lib.Seq.{sets, sets-eq, take_all, get_or-take, get_or-drop, get_or-set_same, get_or-set_other, take-set-lt, drop-set-add, ext_get_or}
+use lib.Seq.{sets, sets-eq, length-take-le, take-suc, take_all, get_or-take, get_or-drop, get_or-set_same, get_or-set_other, take-set-lt, drop-set-add, ext_get_or}
 use Rattle.lexer.proofs.Bools.{left}
 use Rattle.words.specs.Words.{part0, part1, part2, part3}
 use Rattle.words.proofs.Quads.{quad-0, quad-1, quad-2, quad-3}
-use Rattle.rules.proofs.Starting.{values-more}
+use Rattle.rules.proofs.Overlay.{sets_behind}
 use Rattle.monitor.specs.Ticks.{if_marked, each_marked, count_met}
 use Rattle.monitor.specs.Ticks as ticks
 use Rattle.monitor.specs.Limited.{unlimited}
@@ -25,6 +25,11 @@ use Rattle.live.specs.State.{stored, byte_of, joined, marks_from, marks_in, valu
 pub sets-all : (xs ys : List ℕ) → length xs ≡ length ys → sets xs 0 ys ≡ ys
 sets-all xs ys e =
     sets-eq ys xs 0 (omega (arith, e)) ∙ ap (λ (r : List ℕ). ys ++ r) (drop_of_length-le xs {i = 0 + length ys} (omega (arith, e))) ∙ append-nil ys
+
+-- one number more of a list over the front of another
+values-more : (L W : List ℕ) (i : ℕ) → i < length W → set (sets L 0 (take i W)) i (get_or W i 0) ≡ sets L 0 (take (i + 1) W)
+values-more L W i h =
+    sets_behind L 0 i (take i W) (get_or W i 0 ∷ []) (take (i + 1) W) (let l = length-take-le i W (omega arith) in omega (arith, l)) (let e : i + 1 ≡ suc i = omega arith in ap (λ (n : ℕ). take n W) e ∙ take-suc W i 0 h)
 
 -- n words from k on, by what stands there
 pub same-part : (k n : ℕ) (S S' : List ℕ) → length S ≡ length S' → ((i : ℕ) → i < n → get_or S (k + i) 0 ≡ get_or S' (k + i) 0) → take n (drop k S) ≡ take n (drop k S')

@@ -11,22 +11,25 @@ ghost use Rattle.meaning.specs.Opening.{counts_of, open_text};
 ghost use Rattle.rules.specs.Watches.{shown_outcome};
 ghost use Rattle.monitor.specs.Calls.{refused_by};
 ghost use Rattle.monitor.specs.Limited.{stepped};
+ghost use Rattle.monitor.specs.Shown.{shown_refusal};
 ghost use Rattle.live.specs.State.{state_in, moved, halted};
 ghost use Rattle.live.specs.Calls.{state_block, filled, first_state, opened_in, wires_in, tick_in, reply_in, words_after, touched_with, touched_in, store_in, met_in, ticks_in};
 ghost use Rattle.live.specs.Codes.{answer_code, open_code, is_open};
 
 use counts::{COSTS as ASKED, PLACES as LEFT};
 use monitor::{
-    counts_of, is_bad, layout_of, letter_at, peek_in, refused_by, step_in, tables_of, touched_in,
+    counts_of, is_bad, layout_of_watch, letter_at, peek_in, refused_by, step_in, tables_of,
+    touched_in,
 };
-use rules::{Outcome, Watch, open};
+use refusals::Refusal;
+use rules::{Counts, Refused, Watch, open};
 use state::{
     BEFORE, STOPPED, TICKS, TOTALS, VALUES, marks_in, put_marks, put_totals, put_values,
     put_windows, values_in, windows_in,
 };
-use words::{least, quad};
+use words::quad;
 
-// The two groups, and the blocks of the second.
+// The two groups, and the blocks of the second. They go by number, and the words by an array: the C interface lends them so.
 const TABLES: usize = 0;
 
 const FRAME: usize = 1;
@@ -46,7 +49,7 @@ const WIRES: usize = 578;
 
 const STORES: usize = 579;
 
-// What an answer begins with.
+// What an answer begins with. Numbers, and no enum: the C interface (include/linewatch.h) has them.
 const OK: usize = 0;
 
 const BAD: usize = 1;
@@ -58,8 +61,9 @@ const REFUSED_LETTER: usize = 3;
 // ---- opening
 
 // The state of a watch before its first tick.
-fn first_state(watch: Watch) -> [u64; 1024]
-    ensures { result ≡ first_state watch.marks watch.values watch.windows }
+#[tactic(auto, unfolding(monitor::specs::Ticks::each_marked))]
+fn first_state(watch: &Watch) -> [u64; 1024]
+    ensures { result ≡ first_state watch.now.marks watch.now.values watch.now.windows }
 {
     let mut state = [0u64; 1024];
     put_marks(&watch.marks, &mut state);
@@ -68,64 +72,46 @@ fn first_state(watch: Watch) -> [u64; 1024]
     state
 }
 
-// Lays a watch out in words.
-fn fill(watch: Watch, words: &mut [[[u64; 1024]; 4]; 2])
-    ensures { words.new ≡ filled watch words.old }
+// Lays a watch out in words. It is not inlined, so that what it makes on the way lies in no frame while the text is read.
+#[inline(never)]
+fn fill(watch: &Watch, words: &mut [[[u64; 1024]; 4]; 2])
+    ensures { words.new ≡ filled watch.now words.old }
 {
-    let tables = tables_of(watch);
-    words[TABLES] = tables;
-    let layout = layout_of(
-        &watch.places,
-        &watch.own,
-        &watch.firsts,
-        &watch.counted,
-        watch.monitors,
-        watch.letters,
-        watch.wires,
-        watch.stores,
-        watch.rows,
-    );
-    words[FRAME][LAYOUT] = layout;
+    words[TABLES] = tables_of(watch);
+    words[FRAME][LAYOUT] = layout_of_watch(watch);
     let counts = counts_of(watch);
-    let left = counts[LEFT];
-    words[FRAME][PLACES] = left;
-    let asked = counts[ASKED];
-    words[FRAME][COSTS] = asked;
-    let state = first_state(watch);
-    words[FRAME][STATE] = state;
+    words[FRAME][PLACES] = counts[LEFT];
+    words[FRAME][COSTS] = counts[ASKED];
+    words[FRAME][STATE] = first_state(watch);
 }
 
 fn byte(number: u8) -> usize
     ensures { result ≡ number }
 {
-    number as usize
+    usize::from(number)
 }
 
 // An opening as a number.
-fn open_code(outcome: Outcome) -> u64
+fn open_code(outcome: Result<Counts, Refused>) -> u64
     ensures { result ≡ open_code (shown_outcome outcome) }
 {
     match outcome {
-        Outcome::AtByte(number, place) => quad(REFUSED, byte(number), place, 0),
-        Outcome::AtLetter(number, monitor, letter) => quad(
+        Ok(counts) => quad(OK, counts.rows, counts.letters, 0),
+        Err(Refused::AtByte(why, place)) => quad(REFUSED, byte(why.number()), place, 0),
+        Err(Refused::AtLetter(why, monitor, letter)) => quad(
             REFUSED_LETTER,
-            byte(number),
+            byte(why.number()),
             monitor,
             letter,
         ),
-        Outcome::Open(rows, letters) => quad(OK, rows, letters, 0),
     }
 }
 
 // Whether a text was accepted.
-fn is_open(outcome: Outcome) -> bool
+fn is_open(outcome: Result<Counts, Refused>) -> bool
     ensures { result ≡ is_open (shown_outcome outcome) }
 {
-    match outcome {
-        Outcome::AtByte(_, _) => false,
-        Outcome::AtLetter(_, _, _) => false,
-        Outcome::Open(_, _) => true,
-    }
+    outcome.is_ok()
 }
 
 // Opens a rule text into words, and tells both counts; or the refusal, and the words are as they were.
@@ -134,19 +120,17 @@ pub fn open_words(text: &[u8], words: &mut [[[u64; 1024]; 4]; 2]) -> u64
 {
     let start = open(text);
     let outcome = start.outcome;
-    if !is_open(outcome) {
-        return open_code(outcome);
+    if is_open(outcome) {
+        fill(&start.watch, words);
     }
-    let watch = start.watch;
-    fill(watch, words);
     open_code(outcome)
 }
 
 // ---- one word
 
-// 16, 17, 15 or 0, by the state and the number of wires.
-fn refusal(words: &[[[u64; 1024]; 4]; 2], word: u64) -> u8
-    ensures { result ≡ refused_by (state_in (state_block words.now)).stopped (get_or (state_block words.now) 0 0) (wires_in words.now) word }
+// Why a call is refused, if it is, by the state and the number of wires.
+fn refusal(words: &[[[u64; 1024]; 4]; 2], word: u64) -> Option<Refusal>
+    ensures { shown_refusal result ≡ refused_by (state_in (state_block words.now)).stopped (get_or (state_block words.now) 0 0) (wires_in words.now) word }
 {
     let stopped = words[FRAME][STATE][STOPPED] != 0;
     let ticks = words[FRAME][STATE][TICKS];
@@ -154,16 +138,17 @@ fn refusal(words: &[[[u64; 1024]; 4]; 2], word: u64) -> u8
     refused_by(stopped, ticks, wires, word)
 }
 
-// What a look does with a word that is not refused.
-fn peek_on<'a>(
-    words: &'a [[[u64; 1024]; 4]; 2],
-    marks: &'a [u8; 288],
-    values: &'a [u64; 16],
-    windows: &'a [u16; 1056],
+// What a look does with a word that is not refused. The marks, the store values and the windows go one by one, here and below, since
+// reading them into one struct took 64 ns in place of 41.
+fn peek_on(
+    words: &[[[u64; 1024]; 4]; 2],
+    marks: &[u8; 288],
+    values: &[u64; 16],
+    windows: &[u16; 1056],
     past: u64,
     word: u64,
 ) -> usize
-    ensures { result ≡ (tick_in words.now (record { marks = marks.entry.now; values = values.now; last = past; totals = []; windows = windows.now }) word).answer }
+    ensures { result ≡ (tick_in words.now (record { marks = marks.now; values = values.now; last = past; totals = []; windows = windows.now }) word).answer }
 {
     peek_in(
         &words[TABLES],
@@ -177,15 +162,15 @@ fn peek_on<'a>(
 }
 
 // What a take does with one, and with the marks, the store values and the windows.
-fn step_on<'a>(
-    words: &'a [[[u64; 1024]; 4]; 2],
+fn step_on(
+    words: &[[[u64; 1024]; 4]; 2],
     marks: &mut [u8; 288],
     values: &mut [u64; 16],
     windows: &mut [u16; 1056],
     past: u64,
     word: u64,
 ) -> usize
-    ensures { stepped result marks.exit.now values.new windows.new ≡ tick_in words.now (record { marks = marks.entry.now; values = values.old; last = past; totals = []; windows = windows.old }) word }
+    ensures { stepped result marks.new values.new windows.new ≡ tick_in words.now (record { marks = marks.old; values = values.old; last = past; totals = []; windows = windows.old }) word }
 {
     step_in(
         &words[TABLES],
@@ -199,7 +184,7 @@ fn step_on<'a>(
 }
 
 // The rows that a tick touches that follows the marks.
-fn touched_on<'a>(words: &'a [[[u64; 1024]; 4]; 2], marks: &'a [u8; 288]) -> usize
+fn touched_on(words: &[[[u64; 1024]; 4]; 2], marks: &[u8; 288]) -> usize
     ensures { result ≡ touched_with words.now marks.now }
 {
     touched_in(
@@ -215,14 +200,12 @@ fn touched_on<'a>(words: &'a [[[u64; 1024]; 4]; 2], marks: &'a [u8; 288]) -> usi
 pub fn look_words(words: &[[[u64; 1024]; 4]; 2], word: u64) -> u64
     ensures { result ≡ answer_code (looked (reply_in words.now word)) }
 {
-    let number = refusal(words, word);
-    if number != 0 {
-        return quad(REFUSED, byte(number), 0, 0);
+    if let Some(refused) = refusal(words, word) {
+        return quad(REFUSED, usize::from(refused.number()), 0, 0);
     }
     let marks = marks_in(&words[FRAME][STATE]);
     let values = values_in(&words[FRAME][STATE]);
-    let mut windows = [0u16; 1056];
-    windows_in(&words[FRAME][STATE], &mut windows);
+    let windows = windows_in(&words[FRAME][STATE]);
     let past = words[FRAME][STATE][BEFORE];
     let answer = peek_on(words, &marks, &values, &windows, past, word);
     if is_bad(answer) {
@@ -263,15 +246,13 @@ fn halt(state: &mut [u64; 1024])
 pub fn take_words(words: &mut [[[u64; 1024]; 4]; 2], word: u64) -> u64
     ensures { (result ≡ answer_code (took (reply_in words.old word) (touched_by (reply_in words.old word) (touched_in words.old)))) × (words.new ≡ words_after words.old word) }
 {
-    let number = refusal(words, word);
-    if number != 0 {
-        return quad(REFUSED, byte(number), 0, 0);
+    if let Some(refused) = refusal(words, word) {
+        return quad(REFUSED, usize::from(refused.number()), 0, 0);
     }
     let mut marks = marks_in(&words[FRAME][STATE]);
     let rows = touched_on(words, &marks);
     let mut values = values_in(&words[FRAME][STATE]);
-    let mut windows = [0u16; 1056];
-    windows_in(&words[FRAME][STATE], &mut windows);
+    let mut windows = windows_in(&words[FRAME][STATE]);
     let past = words[FRAME][STATE][BEFORE];
     let answer = step_on(words, &mut marks, &mut values, &mut windows, past, word);
     if is_bad(answer) {
@@ -296,22 +277,22 @@ pub fn take_words(words: &mut [[[u64; 1024]; 4]; 2], word: u64) -> u64
 pub fn store_value(words: &[[[u64; 1024]; 4]; 2], store: usize) -> u64
     ensures { result ≡ store_in words.now store }
 {
-    let stores = least(words[FRAME][LAYOUT][STORES] as usize, 16);
+    let stores = (words[FRAME][LAYOUT][STORES] as usize).min(16);
     if stores <= store {
-        return 0;
+        0
+    } else {
+        words[FRAME][STATE][VALUES + store]
     }
-    words[FRAME][STATE][VALUES + store]
 }
 
 // At how many ticks a letter of a monitor was met, or 0 where there is none.
 pub fn letter_met(words: &[[[u64; 1024]; 4]; 2], monitor: usize, letter: usize) -> u64
     ensures { result ≡ met_in words.now monitor letter }
 {
-    let place = letter_at(&words[FRAME][LAYOUT], monitor, letter);
-    if 256 <= place {
-        return 0;
+    match letter_at(&words[FRAME][LAYOUT], monitor, letter) {
+        None => 0,
+        Some(place) => words[FRAME][STATE][TOTALS + place],
     }
-    words[FRAME][STATE][TOTALS + place]
 }
 
 // How many takes were ok.

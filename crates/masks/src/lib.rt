@@ -16,6 +16,7 @@ pub extern "C" fn passes(look: u64, want: u64, word: u64) -> bool
 }
 
 // Whether two letters want the same of the wires that both look at.
+// four words and no two structs of a look and a want: the definition `compatible` and the table of a watch have them apart, and `passes` takes three words from C
 pub fn compatible(look1: u64, want1: u64, look2: u64, want2: u64) -> bool
     ensures { result ≡ compatible look1 want1 look2 want2 }
 {

@@ -1,11 +1,11 @@
 -- The block of words that a tick is lent: one word of it is one of the list that stands there, and the block of a watch has the watch's layout. Assumes nothing.
-use mathlib.Core.Path.{◌≡◌, refl, sym, ◌∙◌, ap, ap₂, subst}
-use mathlib.Core.Bool.{Bool, true, false, cond}
+use mathlib.Core.Path.{◌≡◌, sym, ◌∙◌, ap, ap₂}
+use mathlib.Core.Bool.{cond}
 use mathlib.Core.List.{List, map}
 use Prim.Native.Nat.{ℕ, ◌+◌, ◌-◌, ◌%◌, ◌<◌, ◌≤◌}
 use native.Mathlib.Nat.{mod-eq_of_lt}
 use native.Mathlib.Omega.{arith}
-use borrow.Author.Tests.{ltb-true, ltb-false, lt-ltb, le-ltb}
+use borrow.Author.Tests.{lt-ltb, le-ltb}
 use lib.Dec.{ltb}
 use lib.ListN.{length, get_or, set, take, drop, replicate, length-take, length-drop, length-set, length-map, length-replicate, get_or-map}
 use lib.Seq.{sets, length-sets, get_or-take, get_or-drop, get_or-set_same, get_or-set_other, ext_get_or}
@@ -36,14 +36,6 @@ pub own-bytes : (xs : List ℕ) → ((i : ℕ) → i < length xs → get_or xs i
 own-bytes xs f =
     let e = length-map xs (λ (x : ℕ). x % 256) in
     ext_get_or 0 (map (λ x. x % 256) xs) xs e (λ i l. get_or-map (λ (x : ℕ). x % 256) xs i 0 ∙ mod-eq_of_lt (f i (omega (arith, l, e))))
-
--- so far, and so is the next one
-pub bytes-more : (xs : List ℕ) (i x : ℕ) → ((j : ℕ) → j < i → get_or xs j 0 < 256) → x ≡ get_or xs i 0 → x < 256 → (j : ℕ) → j < i + 1 → get_or xs j 0 < 256
-bytes-more xs i x f e h j l = by (ltb j i) refl
-  where
-    by : (b : Bool) → ltb j i ≡ b → get_or xs j 0 < 256
-    by true d = f j (ltb-true j i d)
-    by false d = let q : i ≡ j = omega (arith, l, ltb-false j i d) in subst (λ (k : ℕ). get_or xs k 0 < 256) q (omega (arith, e, h))
 
 -- ---- the block of a layout
 

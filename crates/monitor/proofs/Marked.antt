@@ -1,19 +1,18 @@
 -- Going over marked letters: what does nothing for an unmarked letter goes on from the first marked one; and the marks a good tick leaves. Assumes nothing.
 use mathlib.Core.Path.{◌≡◌, refl, sym, ◌∙◌, ap, ap₂}
 use mathlib.Core.Bool.{Bool, true, false, cond}
-use mathlib.Core.List.{List, [], ◌∷◌}
+use mathlib.Core.List.{List, ◌++◌}
 use Prim.Native.Nat.{ℕ, zero, suc, ◌+◌, ◌-◌, ◌<◌, ◌≤◌}
 use native.Mathlib.Omega.{arith}
 use borrow.Author.Tests.{eq-eqb, ne_eqb, eqb-true, eqb-false, ltb-true, ltb-false}
 use lib.Dec.{eqb, ltb}
 use lib.Bits.{bit_or, or_add_and, and_le_l, and_le_r}
-use lib.ListN.{get_or, length, take, drop, replicate, set, get_or-replicate, get_or-eq_default}
-use lib.Seq.{sets, get_or-drop, get_or-set_other, set-get_or, take_all}
+use lib.ListN.{get_or, length, take, drop, replicate, length-take, length-drop, length-replicate}
+use lib.Seq.{sets-eq}
 use Rattle.lexer.proofs.Bools.{taken, left}
-use Rattle.rules.proofs.Starting.{values-more}
 use Rattle.monitor.specs.Ticks.{first_marked, if_marked, each_marked, marks_after}
 
--- ---- eight at once
+-- ---- one or more at once
 
 pub or-zero : (a b : ℕ) → bit_or a b ≡ 0 → (a ≡ 0) × (b ≡ 0)
 or-zero a b e =
@@ -25,31 +24,6 @@ or-zero a b e =
 -- what one letter is, each of one letter is
 pub one-alone : (K : List ℕ) (l : ℕ) → get_or K l 0 ≡ 0 → (j : ℕ) → j < 1 → get_or K (l + j) 0 ≡ 0
 one-alone K l z j h = let e : l + j ≡ l = omega (arith, h) in ap (λ (i : ℕ). get_or K i 0) e ∙ z
-
-pub eight-zero : (K : List ℕ) (l : ℕ)
-    → bit_or (bit_or (bit_or (bit_or (bit_or (bit_or (bit_or (get_or K l 0) (get_or K (l + 1) 0)) (get_or K (l + 2) 0)) (get_or K (l + 3) 0)) (get_or K (l + 4) 0)) (get_or K (l + 5) 0)) (get_or K (l + 6) 0)) (get_or K (l + 7) 0) ≡ 0
-    → (i : ℕ) → i < 8 → get_or K (l + i) 0 ≡ 0
-eight-zero K l z =
-    let (s₇, k₇) = or-zero _ _ z in
-    let (s₆, k₆) = or-zero _ _ s₇ in
-    let (s₅, k₅) = or-zero _ _ s₆ in
-    let (s₄, k₄) = or-zero _ _ s₅ in
-    let (s₃, k₃) = or-zero _ _ s₄ in
-    let (s₂, k₂) = or-zero _ _ s₃ in
-    let (k₀, k₁) = or-zero _ _ s₂ in
-    by k₀ k₁ k₂ k₃ k₄ k₅ k₆ k₇
-  where
-    by : get_or K l 0 ≡ 0 → get_or K (l + 1) 0 ≡ 0 → get_or K (l + 2) 0 ≡ 0 → get_or K (l + 3) 0 ≡ 0 → get_or K (l + 4) 0 ≡ 0 → get_or K (l + 5) 0 ≡ 0 → get_or K (l + 6) 0 ≡ 0 → get_or K (l + 7) 0 ≡ 0
-        → (i : ℕ) → i < 8 → get_or K (l + i) 0 ≡ 0
-    by a b c d e f g h zero q = let n : l + 0 ≡ l = omega arith in ap (λ (m : ℕ). get_or K m 0) n ∙ a
-    by a b c d e f g h (suc zero) q = b
-    by a b c d e f g h (suc (suc zero)) q = c
-    by a b c d e f g h (suc (suc (suc zero))) q = d
-    by a b c d e f g h (suc (suc (suc (suc zero)))) q = e
-    by a b c d e f g h (suc (suc (suc (suc (suc zero))))) q = f
-    by a b c d e f g h (suc (suc (suc (suc (suc (suc zero)))))) q = g
-    by a b c d e f g h (suc (suc (suc (suc (suc (suc (suc zero))))))) q = h
-    by a b c d e f g h (suc (suc (suc (suc (suc (suc (suc (suc i)))))))) q = absurd (omega (arith, q))
 
 -- ---- marked letters, one after the other
 
@@ -158,27 +132,26 @@ module _ (K : List ℕ) where
   unfolding first_marked
   first_past = past-some (first_marked K) (λ n l z. taken (eqb (get_or K l 0) 0) (first_marked K n (suc l)) l (eq-eqb (get_or K l 0) 0 z))
 
+-- from the first number on: none before it is marked, and it is, where there is one
+pub first-of : (K : List ℕ) (to r : ℕ) → r ≤ to → ((j : ℕ) → j < r → get_or K j 0 ≡ 0) → (r < to → get_or K r 0 ≡ 0 → ⊥) → r ≡ first_marked K to 0
+first-of K to r h before here = by (ltb r to) refl ∙ sym (first_past K r to 0 (omega (arith, h)) (λ j l. let e : 0 + j ≡ j = omega arith in ap (λ (i : ℕ). get_or K i 0) e ∙ before j l)) ∙ ap (λ (n : ℕ). first_marked K n 0) all
+  where
+    all : to - 0 ≡ to
+    all = omega arith
+
+    at : 0 + r ≡ r
+    at = omega arith
+
+    by : (b : Bool) → ltb r to ≡ b → r ≡ first_marked K (to - (0 + r)) (0 + r)
+    by true e = let l = ltb-true r to e in first-here K to r l (here l) ∙ ap (λ (i : ℕ). first_marked K (to - i) i) (sym at)
+    by false e = first-none K to r (ltb-false r to e) ∙ ap (λ (i : ℕ). first_marked K (to - i) i) (sym at)
+
 -- ---- the new marks
 
--- what is stored before an index leaves it
-unstored : (vs L : List ℕ) (j i : ℕ) → j + length vs ≤ i → get_or (sets L j vs) i 0 ≡ get_or L i 0
-unstored [] L j i h = refl
-unstored (x ∷ vs) L j i h = unstored vs (set L j x) (suc j) i (omega arith) ∙ get_or-set_other L j i x 0 (λ (e : i ≡ j). omega arith)
-
--- one more letter's mark; past the memory's end that is 0, as the new marks are
-mark-more : (M : List ℕ) (i : ℕ) → i < 288 → set (marks_after i M) i (get_or M (1024 + i) 0) ≡ marks_after (i + 1) M
-mark-more M i l = ap (λ (x : ℕ). set (marks_after i M) i x) (sym (get_or-drop 1024 M i 0)) ∙ by (drop 1024 M) (ltb i (length (drop 1024 M))) refl
-  where
-    by : (W : List ℕ) (b : Bool) → ltb i (length W) ≡ b → set (sets (replicate 288 0) 0 (take i W)) i (get_or W i 0) ≡ sets (replicate 288 0) 0 (take (i + 1) W)
-    by W true e = values-more (replicate 288 0) W i (ltb-true i (length W) e)
-    by W false e =
-        let h = ltb-false i (length W) e in
-        let z : get_or (sets (replicate 288 0) 0 W) i 0 ≡ 0 = unstored W (replicate 288 0) 0 i (omega (arith, h)) ∙ get_or-replicate 288 i 0 0 l in
-        ap₂ (λ (s : List ℕ) (x : ℕ). set (sets (replicate 288 0) 0 s) i x) (take_all i W h) (get_or-eq_default W 0 {n = i} h ∙ sym z)
-        ∙ set-get_or (sets (replicate 288 0) 0 W) i 0 ∙ ap (sets (replicate 288 0) 0) (sym (take_all (i + 1) W (omega (arith, h))))
-
-pub marks-next : (M K : List ℕ) (i : ℕ) → i < 256 → K ≡ marks_after i M → set K i (get_or M (1024 + i) 0) ≡ marks_after (i + 1) M
-marks-next M K i h e = ap (λ (u : List ℕ). set u i (get_or M (1024 + i) 0)) e ∙ mark-more M i (omega arith)
-
-pub marks-end : (M K : List ℕ) (i n : ℕ) → K ≡ marks_after i M → i ≡ n → K ≡ marks_after n M
-marks-end M K i n e q = e ∙ ap (λ (m : ℕ). marks_after m M) q
+-- those of the memory, and behind them no monitor at its start
+pub marks-put : (M N : List ℕ) → length M ≡ 1280 → N ≡ take 256 (drop 1024 M) → N ++ drop 256 (replicate 288 0) ≡ marks_after 256 M
+marks-put M N e p =
+    let long : length (take 256 (drop 1024 M)) ≡ 256 = omega (arith, length-take 256 (drop 1024 M), length-drop 1024 M, e) in
+    let room : 0 + length (take 256 (drop 1024 M)) ≤ length (replicate {A = ℕ} 288 0) = omega (arith, long, length-replicate {A = ℕ} 288 0) in
+    let end : 256 ≡ 0 + length (take 256 (drop 1024 M)) = omega (arith, long) in
+    ap₂ (λ (xs : List ℕ) (n : ℕ). xs ++ drop n (replicate 288 0)) p end ∙ sym (sets-eq (take 256 (drop 1024 M)) (replicate 288 0) 0 room)

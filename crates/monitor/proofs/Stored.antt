@@ -5,6 +5,7 @@ use Prim.Native.Nat.{ℕ, zero, suc, ◌+◌, ◌-◌, ◌<◌, ◌≤◌}
 use native.Mathlib.Nat.{not-suc-le-zero, le_of_suc-le-suc}
 use native.Mathlib.Omega.{arith}
 use lib.ListN.{length, get_or, take, drop, set, length-set, replicate, length-replicate, drop_of_length-le}
+use Rattle.std.proofs.lemmas.List.{append_assoc, drop-drop}
 use lib.Seq.{sets, sets-eq, take_at, drop-cons, get_or-set_same, get_or-set_other}
 use Rattle.meaning.proofs.Rows.{Stands}
 use Rattle.meaning.proofs.Within.{Each}
@@ -98,3 +99,11 @@ pub drop-replicate : (n k a : ℕ) → drop n (replicate k a) ≡ replicate (k -
 drop-replicate zero k a = ap (λ (m : ℕ). replicate m a) (let e : k ≡ k - 0 = omega arith in e)
 drop-replicate (suc n) zero a = ap (λ (m : ℕ). replicate m a) (let e : 0 ≡ 0 - suc n = omega arith in e)
 drop-replicate (suc n) (suc k) a = drop-replicate n k a ∙ ap (λ (m : ℕ). replicate m a) (let e : k - n ≡ suc k - suc n = omega arith in e)
+
+-- a list stored at once
+pub put-whole : (o n xs : List ℕ) (at k : ℕ) → at + length xs ≤ length o → k ≡ length xs → n ≡ xs → take at o ++ (n ++ drop k (drop at o)) ≡ sets o at xs
+put-whole o n xs at k h e p =
+    ap₂ (λ (ys : List ℕ) (m : ℕ). take at o ++ (ys ++ drop m (drop at o))) p e
+    ∙ ap (λ (r : List ℕ). take at o ++ (xs ++ r)) (drop-drop (length xs) at o)
+    ∙ sym (append_assoc (take at o) xs (drop (at + length xs) o))
+    ∙ sym (sets-eq xs o at h)

@@ -48,9 +48,6 @@ module _ (w n r k l : ℕ) (a : k ≡ part0 w) (b : l ≡ part1 w) where
         pub pipe-right : k ≡ 4 → (l ≡ r → ⊥) → 2 * r ≡ operand_number w n r
         pipe-right e f = rw (is-not 1 f1, is-not 2 f2, is-not 3 f3, is 4 e, from-right f)
 
-        pub no-operator : (k ≡ 4 → ⊥) → 0 ≡ operand_number w n r
-        no-operator f4 = rw (is-not 1 f1, is-not 2 f2, is-not 3 f3, is-not 4 f4)
-
 -- ---- the number of a row, by the row u above it
 
 module _ (t ns : List ℕ) (r u : ℕ) (a : u ≡ up_of t r) where
@@ -75,9 +72,6 @@ module _ (ts : List ℕ) (w n k : ℕ) (a : k ≡ part0 w) where
   module _ (e : k ≡ 0) (l : ℕ) (b : l ≡ part1 w) where
     a-letter : with_thread ts w n ≡ cond (ltb (part1 w) 256) (set ts (part1 w) (thread_of n)) ts
     a-letter = taken (eqb (part0 w) 0) _ ts (eq-eqb (part0 w) 0 (sym a ∙ e))
-
-    pub not-stored : 256 ≤ l → ts ≡ with_thread ts w n
-    not-stored h = sym (a-letter ∙ left (ltb (part1 w) 256) _ ts (le-ltb (part1 w) 256 (omega (arith, b, h))))
 
     pub thread-stored : l < 256 → (m : ℕ) → m ≡ thread_of n → set ts l m ≡ with_thread ts w n
     thread-stored h m q = ap₂ (λ (i x : ℕ). set ts i x) b q ∙ sym (a-letter ∙ taken (ltb (part1 w) 256) _ ts (lt-ltb (part1 w) 256 (omega (arith, b, h))))

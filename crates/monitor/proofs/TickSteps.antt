@@ -11,8 +11,11 @@ use lib.ListN.{get_or, set}
 use lib.Pow.{pow_pos, pow_mono}
 use lib.Seq.{set-get_or}
 use Rattle.lexer.proofs.Bools.{taken, left}
+use Rattle.refusals.specs.declared.Refusal.{Refusal}
+use Rattle.refusals.specs.declared.Refusal.TheVariants.{Overlong, Knot, Misplaced, Unknown, Twice, Oversize, Crowded, LongRun, Impossible, Hollow, OpenEnd, Fork, Torn, IdleByte, Stray, Stopped, Full, ShortBin, Stretch, NotSingle}
+use Rattle.refusals.specs.Refusals.{number_of}
 use Rattle.meaning.specs.Fit.{Verdict, ok as clean, bad as broken}
-use Rattle.meaning.specs.Calls.{Reply, refused, is_stray, is_full, State, reply, after, reply_of as verdict_reply, touched_by}
+use Rattle.meaning.specs.Calls.{Reply, ok, bad, refused, is_stray, is_full, State, reply, after, reply_of as verdict_reply, touched_by}
 use Rattle.words.specs.Words.{part1}
 use Rattle.counts.specs.Counts.{counts_of}
 use Rattle.monitor.specs.Letters.{Given, given, threaded, unthreaded}
@@ -23,8 +26,6 @@ use Rattle.windows.specs.Windows.{counted_in, first_beyond}
 use Rattle.rules.specs.declared.Watch.{Watch}
 use Rattle.monitor.specs.Tally.{counts, touched_of}
 use Rattle.monitor.specs.Calls.{Moving, tables_of, with_state, refused_by, state_of, judge, onward, answer_from, given_of, layout_of, LaidOut, reply_of, touched_on, touched_for, watch_after}
-use Rattle.monitor.specs.Shown.{shown_answer}
-use Rattle.monitor.specs.declared.Answer.TheVariants.{Ok, Bad, Refused}
 use Rattle.monitor.proofs.Marked.{each-split, past-some, to-first}
 
 -- ---- what is done for marked letters; f is what is done for one
@@ -65,20 +66,18 @@ module _ (K : List ℕ) (f : ℕ → List ℕ → List ℕ) where
       → each_marked K f (n - i) i σ ≡ each_marked K f (n - j) j τ
   done_more n i σ τ h e j q = done-one n i σ τ h e ∙ to-first-done n (i + 1) τ j q
 
-  -- done for n letters, and for the next one
-  and-next : (n l : ℕ) (σ ρ τ : List ℕ) → ρ ≡ each_marked K f n l σ → τ ≡ if_marked K f (l + n) ρ → τ ≡ each_marked K f (suc n) l σ
-  unfolding each_marked
-  and-next n l σ ρ τ p q =
-      let d : suc n ≡ n + 1 = omega arith in
-      q ∙ ap (if_marked K f (l + n)) p ∙ sym (ap (λ (m : ℕ). each_marked K f m l σ) d ∙ each-split K f n 1 l σ)
+  -- the same, up to j
+  pub done-to : (m n i j : ℕ) (σ τ : List ℕ) → j ≡ i + m → j ≤ n → τ ≡ each_marked K f m i σ → each_marked K f (n - i) i σ ≡ each_marked K f (n - j) j τ
+  done-to m n i j σ τ q h e = done-some m n i σ τ (omega (arith, q, h)) e ∙ ap (λ (k : ℕ). each_marked K f (n - k) k τ) (sym q)
 
-  -- for eight letters, one after the other
-  pub eight-done : (l : ℕ) (σ₀ σ₁ σ₂ σ₃ σ₄ σ₅ σ₆ σ₇ σ₈ : List ℕ) → σ₁ ≡ if_marked K f l σ₀ → σ₂ ≡ if_marked K f (l + 1) σ₁ → σ₃ ≡ if_marked K f (l + 2) σ₂ → σ₄ ≡ if_marked K f (l + 3) σ₃
-      → σ₅ ≡ if_marked K f (l + 4) σ₄ → σ₆ ≡ if_marked K f (l + 5) σ₅ → σ₇ ≡ if_marked K f (l + 6) σ₆ → σ₈ ≡ if_marked K f (l + 7) σ₇ → σ₈ ≡ each_marked K f 8 l σ₀
+  pub not-yet : (l : ℕ) (σ : List ℕ) → σ ≡ each_marked K f 0 l σ
   unfolding each_marked
-  eight-done l σ₀ σ₁ σ₂ σ₃ σ₄ σ₅ σ₆ σ₇ σ₈ e₁ e₂ e₃ e₄ e₅ e₆ e₇ e₈ =
-      and-next 7 l σ₀ σ₇ σ₈
-      (and-next 6 l σ₀ σ₆ σ₇ (and-next 5 l σ₀ σ₅ σ₆ (and-next 4 l σ₀ σ₄ σ₅ (and-next 3 l σ₀ σ₃ σ₄ (and-next 2 l σ₀ σ₂ σ₃ (and-next 1 l σ₀ σ₁ σ₂ e₁ e₂) e₃) e₄) e₅) e₆) e₇) e₈
+  not-yet l σ = refl
+
+  -- done for n letters, and for the next one
+  pub and-next : (n l : ℕ) (σ ρ τ : List ℕ) → ρ ≡ each_marked K f n l σ → τ ≡ if_marked K f (l + n) ρ → τ ≡ each_marked K f (n + 1) l σ
+  unfolding each_marked
+  and-next n l σ ρ τ p q = q ∙ ap (if_marked K f (l + n)) p ∙ sym (each-split K f n 1 l σ)
 
   -- all are done, and x is what was to be done
   pub done-up : (n i : ℕ) (x τ : List ℕ) → n ≤ i → x ≡ each_marked K f (n - i) i τ → τ ≡ x
@@ -317,15 +316,28 @@ stray-bit k w = by (leb (2 ^ k) w) refl
     by true e = ap not (ne_eqb (w / 2 ^ k) 0 (λ (z : w / 2 ^ k ≡ 0). let s = small z in let t = leb-true (2 ^ k) w e in omega (arith, s, t)))
     by false e = ap not (eq-eqb (w / 2 ^ k) 0 (div-eq_of_lt (leb-false (2 ^ k) w e)))
 
-module _ (b : Bool) (n k w : ℕ) (f : b ≡ false) where
-  pub is-full : 1000000 ≤ n → 17 ≡ refused_by b n k w
-  is-full h = sym (left b 16 _ f ∙ taken (is_full n) 17 _ (le-leb 1000000 n h))
-
-  pub is-stray : n < 1000000 → (s : Bool) → s ≡ is_stray k w → s ≡ true → 15 ≡ refused_by b n k w
-  is-stray h s e d = sym (left b 16 _ f ∙ left (is_full n) 17 _ (lt-leb 1000000 n h) ∙ taken (is_stray k w) 15 0 (sym e ∙ d))
-
-  pub not-refused : n < 1000000 → (s : Bool) → s ≡ is_stray k w → s ≡ false → 0 ≡ refused_by b n k w
-  not-refused h s e d = sym (left b 16 _ f ∙ left (is_full n) 17 _ (lt-leb 1000000 n h) ∙ left (is_stray k w) 15 0 (sym e ∙ d))
+-- a refusal's number is not 0, which says that there is none
+pub refusal-told : (r : Refusal) → number_of r ≡ 0 → ⊥
+refusal-told Overlong z = cc
+refusal-told Knot z = cc
+refusal-told Misplaced z = cc
+refusal-told Unknown z = cc
+refusal-told Twice z = cc
+refusal-told Oversize z = cc
+refusal-told Crowded z = cc
+refusal-told LongRun z = cc
+refusal-told Impossible z = cc
+refusal-told Hollow z = cc
+refusal-told OpenEnd z = cc
+refusal-told Fork z = cc
+refusal-told Torn z = cc
+refusal-told IdleByte z = cc
+refusal-told Stray z = cc
+refusal-told Stopped z = cc
+refusal-told Full z = cc
+refusal-told ShortBin z = cc
+refusal-told Stretch z = cc
+refusal-told NotSingle z = cc
 
 -- ---- the watch after a take
 
@@ -361,7 +373,7 @@ module _ (v : Watch) (t : List (List ℕ)) (F : List ℕ) (e : t ≡ tables_of v
       d ∙ ap (λ (z : Layout). min (touched_of (counts (get_or t 0 []) cs z.places) z.own v.marks z.monitors z.letters) 65535) y.1
       ∙ ap₂ (λ (u z : List (List ℕ)). min (touched_of (counts (get_or u 0 []) z v.places) v.own v.marks v.monitors v.letters) 65535) e f
 
--- the same, with the arrays and numbers of the watch in place of the block
+-- the same, with the arrays and numbers of the watch in place of the block, as `peek`, `step` and `touched` are lent them
 pub lent-step : (v : Watch) (s : Moving) (w : ℕ) (t : List (List ℕ)) (a : Stepped) → t ≡ tables_of v
     → a ≡ tick_of (given t s.values (w ∷ s.last ∷ [])) (layout_of v) s.marks v.counted s.windows → a ≡ tick_from v s w
 lent-step v s w t a e d = d ∙ ap (λ (u : List (List ℕ)). tick_of (given u s.values (w ∷ s.last ∷ [])) (layout_of v) s.marks v.counted s.windows) e
@@ -433,15 +445,12 @@ module _ (by-judge : Moving → ℕ → Verdict) (wires : ℕ) (s : State Moving
   number-reached z a j b f = number-judged z ∙ ap verdict_reply j ∙ ap (λ (c : Bool). verdict_reply (cond c (broken a) clean)) (sym f)
 
 module _ (v : Watch) (w n : ℕ) (e : n ≡ refused_by v.stopped v.ticks v.wires w) where
-  reply-refused : (n ≡ 0 → ⊥) → reply_of v w ≡ refused n 0
+  pub look-refused : (n ≡ 0 → ⊥) → refused n 0 ≡ reply_of v w
   unfolding reply_of
-  reply-refused = number-refused (judge v) v.wires (state_of v) w n e
-
-  pub look-refused : (n ≡ 0 → ⊥) → shown_answer (Refused n) ≡ reply_of v w
-  look-refused z = sym (reply-refused z)
+  look-refused z = sym (number-refused (judge v) v.wires (state_of v) w n e z)
 
   -- a refusal changes no watch
-  pub take-refused : (n ≡ 0 → ⊥) → (shown_answer (Refused n) ≡ reply_of v w) × (v ≡ watch_after v w)
+  pub take-refused : (n ≡ 0 → ⊥) → (refused n 0 ≡ reply_of v w) × (v ≡ watch_after v w)
   unfolding watch_after
   take-refused z =
       let h = look-refused z in
@@ -455,23 +464,23 @@ module _ (v : Watch) (w n : ℕ) (e : n ≡ refused_by v.stopped v.ticks v.wires
     unfolding reply_of
     reply-reached = number-reached (judge v) v.wires (state_of v) w n e z a (ap verdict_by (sym s)) b f
 
-    pub look-bad : b ≡ true → shown_answer (Bad a) ≡ reply_of v w
+    pub look-bad : b ≡ true → bad a ≡ reply_of v w
     look-bad h = sym (reply-reached ∙ ap verdict_reply (taken b (broken a) clean h))
 
-    pub look-ok : b ≡ false → shown_answer Ok ≡ reply_of v w
+    pub look-ok : b ≡ false → ok ≡ reply_of v w
     look-ok h = sym (reply-reached ∙ ap verdict_reply (left b (broken a) clean h))
 
   -- a take answers as a look does, and moves the watch on
   module _ (z : n ≡ 0) (a : ℕ) (K σ W : List ℕ) (s : stepped a K σ W ≡ tick_from v (state_of v).inner w) (b : Bool) (f : b ≡ is_bad a) (u : Watch) where
     pub take-bad : b ≡ true → u ≡ with_state v (record { inner = (state_of v).inner; oks = v.ticks; stopped = true })
-        → (shown_answer (Bad a) ≡ reply_of v w) × (u ≡ watch_after v w)
+        → (bad a ≡ reply_of v w) × (u ≡ watch_after v w)
     unfolding watch_after
     take-bad h q =
         let r = look-bad z a (tick-answer v (state_of v).inner w a K σ W s) b f h in
         (r, q ∙ ap (λ (t : Reply). with_state v (after (onward v) (state_of v) w t)) r)
 
     pub take-ok : b ≡ false → (N : List ℕ) → N ≡ count_met K (min v.letters 256) v.totals → u ≡ ticked_to v K σ N W w (suc v.ticks)
-        → (shown_answer Ok ≡ reply_of v w) × (u ≡ watch_after v w)
+        → (ok ≡ reply_of v w) × (u ≡ watch_after v w)
     unfolding watch_after
     take-ok h N c q =
         let r = look-ok z a (tick-answer v (state_of v).inner w a K σ W s) b f h in (

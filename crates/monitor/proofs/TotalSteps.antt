@@ -2,13 +2,13 @@
 use mathlib.Core.Path.{◌≡◌, refl, sym, ◌∙◌, ap}
 use mathlib.Core.Bool.{Bool, true, false, cond}
 use mathlib.Core.List.{List}
-use Prim.Native.Nat.{ℕ, suc, ◌+◌, ◌-◌, ◌%◌}
+use Prim.Native.Nat.{ℕ, suc, ◌+◌, ◌%◌}
 use native.Mathlib.Omega.{arith}
 use borrow.Author.Tests.{eq-eqb, ne_eqb}
 use lib.Dec.{eqb}
 use lib.ListN.{get_or, set}
 use lib.Seq.{set-get_or}
-use Rattle.monitor.specs.Ticks.{if_marked, each_marked, one_more, count_met}
+use Rattle.monitor.specs.Ticks.{if_marked, one_more}
 use Rattle.lexer.proofs.Bools.{taken, left}
 
 pub not-counted : (n k : ℕ) → k ≡ 0 → n ≡ cond (eqb k 0) n (suc n % 4294967296)
@@ -26,7 +26,3 @@ counted_if K l ns n e = ap (set ns l) e ∙ by (eqb (get_or K l 0) 0)
     by : (b : Bool) → set ns l (cond b (get_or ns l 0) (suc (get_or ns l 0) % 4294967296)) ≡ cond b ns (one_more l ns)
     by true = set-get_or ns l 0
     by false = refl
-
--- from the first letter on
-pub counted-first : (K : List ℕ) (n : ℕ) (ns : List ℕ) → count_met K n ns ≡ each_marked K one_more (n - 0) 0 ns
-counted-first K n ns = let e : n ≡ n - 0 = omega arith in ap (λ (m : ℕ). each_marked K one_more m 0 ns) e

@@ -1,14 +1,22 @@
 -- The steps of the walk, each from what the calls before it answered: one law for each way out of a function of the walk. Assumes nothing.
-use mathlib.Core.Path.{◌≡◌}
+use mathlib.Core.Path.{◌≡◌, ◌∙◌, ap}
 use mathlib.Core.Bool.{Bool, true, false, not}
 use mathlib.Core.List.{List}
 use Prim.Native.Nat.{ℕ, suc, ◌+◌, ◌-◌, ◌<◌, ◌≤◌}
 use native.Mathlib.Omega.{arith}
 use borrow.Author.Tests.{eq-eqb, ne_eqb, le-leb, lt-leb, not-true, not-false}
 use lib.ListN.{get_or, set}
+use Rattle.words.specs.declared.rows.RowKind.{RowKind}
+use Rattle.words.specs.Rows.{kind_number}
 use Rattle.words.specs.Words.{part0, part1, part2, part3}
 use Rattle.monitor.specs.Letters.{Given, letter_met}
 use Rattle.monitor.specs.Walk.{Came, came, Told, told, Entry, enter_letter, enter_second, enter_on, enter_m, leave_to, leave_on, ask_m, leave_m}
+
+-- ---- the kind of a row
+
+-- looked up, and then found to be j
+pub kind-told : (k j : RowKind) (n : ℕ) → n ≡ kind_number k → k ≡ j → n ≡ kind_number j
+kind-told k j n e d = e ∙ ap kind_number d
 
 -- ---- a letter is entered
 
@@ -84,9 +92,15 @@ module _ (n : ℕ) (g : Given) (r : ℕ) (M : List ℕ) where
             unfolding leave_to
             to-star e a p = by-above a (rw (← q, e) p)
 
-            pub to_none : (k ≡ 1 → ⊥) → (k ≡ 2 → ⊥) → (k ≡ 3 → ⊥) → (k ≡ 4 → ⊥) → told false M ≡ leave_m n g r M
+            to_none : (k ≡ 1 → ⊥) → (k ≡ 2 → ⊥) → (k ≡ 3 → ⊥) → (k ≡ 4 → ⊥) → told false M ≡ leave_m n g r M
             unfolding leave_to
             to_none m o s t = by-above (told false M) (rw (← q, ne_eqb k 1 m, ne_eqb k 2 o, ne_eqb k 3 s, ne_eqb k 4 t))
+
+            pub to-letter : k ≡ 0 → told false M ≡ leave_m n g r M
+            to-letter e = to_none (λ d. omega (arith, e, d)) (λ d. omega (arith, e, d)) (λ d. omega (arith, e, d)) (λ d. omega (arith, e, d))
+
+            pub to-unknown : 4 < k → told false M ≡ leave_m n g r M
+            to-unknown e = to_none (λ d. omega (arith, e, d)) (λ d. omega (arith, e, d)) (λ d. omega (arith, e, d)) (λ d. omega (arith, e, d))
 
             module _ (b : ℕ) (c : b ≡ part1 (get_or g.table u 0)) where
               pub to_end : k ≡ 1 → (b ≡ r → ⊥) → (a : Told) → a ≡ leave_m (n - 1) g u M → a ≡ leave_m n g r M
@@ -145,8 +159,17 @@ module _ (enter : Entry) (x f : ℕ) (M : List ℕ) (k : ℕ) (q : k ≡ part0 x
   pub star-passed : k ≡ 3 → (f ≡ 3 → ⊥) → came 2 M ≡ enter_second enter x (came f M)
   star-passed h n = rw (← q, h, ne_eqb f 3 n)
 
-  pub first-only : (k ≡ 1 → ⊥) → (k ≡ 3 → ⊥) → (k ≡ 2 → ⊥) → came f M ≡ enter_second enter x (came f M)
+  first-only : (k ≡ 1 → ⊥) → (k ≡ 3 → ⊥) → (k ≡ 2 → ⊥) → came f M ≡ enter_second enter x (came f M)
   first-only z m o = rw (← q, ne_eqb k 1 z, ne_eqb k 3 m, ne_eqb k 2 o)
+
+  pub first-letter : k ≡ 0 → came f M ≡ enter_second enter x (came f M)
+  first-letter e = first-only (λ d. omega (arith, e, d)) (λ d. omega (arith, e, d)) (λ d. omega (arith, e, d))
+
+  pub first-pipe : k ≡ 4 → came f M ≡ enter_second enter x (came f M)
+  first-pipe e = first-only (λ d. omega (arith, e, d)) (λ d. omega (arith, e, d)) (λ d. omega (arith, e, d))
+
+  pub first-unknown : 4 < k → came f M ≡ enter_second enter x (came f M)
+  first-unknown e = first-only (λ d. omega (arith, e, d)) (λ d. omega (arith, e, d)) (λ d. omega (arith, e, d))
 
   pub first-met : k ≡ 2 → f ≡ 3 → came f M ≡ enter_second enter x (came f M)
   first-met h t = rw (← q, h, t)

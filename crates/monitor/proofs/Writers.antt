@@ -4,11 +4,11 @@ use mathlib.Core.Bool.{Bool, true, false, cond, ◌&&◌}
 use mathlib.Core.List.{List}
 use Prim.Native.Nat.{ℕ, zero, suc, ◌+◌, ◌-◌, ◌*◌, ◌<◌, ◌≤◌}
 use native.Mathlib.Omega.{arith}
-use borrow.Author.Tests.{eq-eqb, ne_eqb, eqb-true, eqb-false}
-use lib.Dec.{eqb}
+use borrow.Author.Tests.{eq-eqb, ne_eqb, eqb-true, eqb-false, ltb-true, ltb-false}
+use lib.Dec.{eqb, ltb}
 use lib.ListN.{get_or, length, replicate, length-replicate}
 use lib.Seq.{sets, get_or-set_same, length-sets}
-use Rattle.lexer.proofs.Bools.{and_left, and_right, neither, both}
+use Rattle.lexer.proofs.Bools.{taken, left, and_left, and_right, neither, both}
 use Rattle.words.specs.Words.{quad, part1}
 use Rattle.words.proofs.Quads.{quad-1}
 use Rattle.rules.specs.declared.Watch.{Watch}
@@ -22,22 +22,37 @@ use Rattle.monitor.proofs.Marked.{each-split}
 -- ---- the last letter that is not idle
 
 module _ (p : ℕ → Bool) where
-  one_less : (n l : ℕ) → 0 < n → l ≡ n - 1 → n ≡ suc l
-  one_less n l h e = omega (arith, e)
-
   -- a turn of a loop, from the last letter down
   module _ (n l : ℕ) (h : 0 < n) (e : l ≡ n - 1) where
-    pub last-busy : p l ≡ false → n ≡ up_to p n
+    one_more_lem : n ≡ suc l
+    one_more_lem = omega (arith, h, e)
+
+    pub last-busy : p l ≡ false → l + 1 ≡ up_to p n
     unfolding up_to
-    last-busy f = rw (one_less n l h e, f)
+    last-busy f = let d : l + 1 ≡ suc l = omega arith in d ∙ sym (ap (up_to p) one_more_lem ∙ left (p l) (up_to p l) (suc l) f)
 
     pub last-idle : p l ≡ true → up_to p n ≡ up_to p l
     unfolding up_to
-    last-idle f = rw (one_less n l h e, f)
+    last-idle f = ap (up_to p) one_more_lem ∙ taken (p l) (up_to p l) (suc l) f
 
   pub none-busy : (n : ℕ) → n ≡ 0 → up_to p n ≡ 0
   unfolding up_to
   none-busy n e = rw e
+
+  -- the last number of which the letter before it is not idle
+  pub up-to-is : (n r : ℕ) → r ≤ n → ((i : ℕ) → r ≤ i → i < n → p i ≡ true) → (0 < r → p (r - 1) ≡ false) → r ≡ up_to p n
+  unfolding up_to
+  up-to-is zero r h idle busy = omega (arith, h)
+  up-to-is (suc n) r h idle busy = by (p n) refl (ltb n r) refl (λ l. up-to-is n r l (λ i g k. idle i g (omega (arith, k))) busy)
+    where
+      by : (b : Bool) → p n ≡ b → (c : Bool) → ltb n r ≡ c → (r ≤ n → r ≡ up_to p n) → r ≡ cond b (up_to p n) (suc n)
+      by true e true l less =
+          let m = ltb-true n r l in
+          let d : r - 1 ≡ n = omega (arith, h, m) in
+          let f : true ≡ false = sym e ∙ sym (ap p d) ∙ busy (omega (arith, m)) in cc
+      by true e false l less = less (ltb-false n r l)
+      by false e true l less = let m = ltb-true n r l in omega (arith, h, m)
+      by false e false l less = let f : true ≡ false = sym (idle n (ltb-false n r l) (omega arith)) ∙ e in cc
 
   pub up-to-below : (n : ℕ) → up_to p n ≤ n
   unfolding up_to
@@ -67,14 +82,14 @@ module _ (c : List ℕ) where
   unwriting l = eqb (get_or c (4 * l + 2) 0) 0 && eqb (get_or c (4 * l + 3) 0) 0
 
   module _ (n l : ℕ) (h : 0 < n) (e : l ≡ n - 1) where
-    pub first-writes : (get_or c (4 * l + 2) 0 ≡ 0 → ⊥) → n ≡ writers_of c n
+    pub first-writes : (get_or c (4 * l + 2) 0 ≡ 0 → ⊥) → l + 1 ≡ writers_of c n
     first-writes f = last-busy unwriting n l h e (sym (neither _ _ (ne_eqb (get_or c (4 * l + 2) 0) 0 f)))
 
     module _ (z : get_or c (4 * l + 2) 0 ≡ 0) where
       second : unwriting l ≡ eqb (get_or c (4 * l + 3) 0) 0
       second = sym (both _ _ (eq-eqb (get_or c (4 * l + 2) 0) 0 z))
 
-      pub second-writes : (get_or c (4 * l + 3) 0 ≡ 0 → ⊥) → n ≡ writers_of c n
+      pub second-writes : (get_or c (4 * l + 3) 0 ≡ 0 → ⊥) → l + 1 ≡ writers_of c n
       second-writes f = last-busy unwriting n l h e (second ∙ ne_eqb (get_or c (4 * l + 3) 0) 0 f)
 
       pub none-writes : get_or c (4 * l + 3) 0 ≡ 0 → writers_of c n ≡ writers_of c l

@@ -41,18 +41,14 @@ fn shut_if(letter: usize, marks: &[u8; 288], tables: &[[u64; 1024]; 4], memory: 
 }
 
 // The threads that eight letters go on in, of those that are marked.
+// Speed: eight in one turn; one `for` over all letters takes up to twice as long.
 fn shut_eight(from: usize, marks: &[u8; 288], tables: &[[u64; 1024]; 4], memory: &mut [u8; 1280])
     requires { from + 8 ≤ 256 }
     ensures { (S W : List ℕ) → memory.new ≡ each_marked marks.now (shut_for (given tables.now S W)) 8 from memory.old }
 {
-    shut_if(from, marks, tables, memory);
-    shut_if(from + 1, marks, tables, memory);
-    shut_if(from + 2, marks, tables, memory);
-    shut_if(from + 3, marks, tables, memory);
-    shut_if(from + 4, marks, tables, memory);
-    shut_if(from + 5, marks, tables, memory);
-    shut_if(from + 6, marks, tables, memory);
-    shut_if(from + 7, marks, tables, memory);
+    for step in 0..8 {
+        shut_if(from + step, marks, tables, memory);
+    }
 }
 
 // The threads that the marked letters from one up to another go on in. Eight are looked at in one turn, whether one of them is
@@ -67,14 +63,11 @@ pub(crate) fn shut_marked(
     requires { to ≤ 256 }
     ensures { (S W : List ℕ) → memory.new ≡ each_marked marks.now (shut_for (given tables.now S W)) (to - from) from memory.old }
 {
-    let mut letter = from;
-    while letter < to {
-        if letter + 8 <= to {
-            shut_eight(letter, marks, tables, memory);
-            letter += 8;
-        } else {
-            shut_if(letter, marks, tables, memory);
-            letter += 1;
-        }
+    let eights = to.saturating_sub(from) / 8;
+    for eight in 0..eights {
+        shut_eight(from + 8 * eight, marks, tables, memory);
+    }
+    for letter in from + 8 * eights..to {
+        shut_if(letter, marks, tables, memory);
     }
 }

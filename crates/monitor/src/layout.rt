@@ -1,10 +1,12 @@
 // The block of words that a tick is lent beside the tables (specs/Ticks.antt): where the letters and the monitors of a watch stand,
-// laid out once for many ticks. First comes the row of each letter, 256 of them.
+// laid out once for many ticks. Words at fixed places, and no struct: the C interface lends them so. First comes the row of each
+// letter, 256 of them.
 ghost use Rattle.std.specs.Prelude.{◌≡◌, map, ◌+◌, ◌<◌, ◌≤◌, ◌%◌, length, get_or};
 ghost use Rattle.std.proofs.lemmas.List.Edits.{sets};
 ghost use Rattle.monitor.specs.Ticks.{places_in, own_in, firsts_in};
-ghost use Rattle.monitor.specs.Calls.{LaidBy};
+ghost use Rattle.monitor.specs.Calls.{LaidBy, LaidOut};
 
+use rules::Watch;
 use windows::COUNTED;
 
 // From here on the own row of each monitor, 32 of them.
@@ -27,18 +29,12 @@ const ROWS: usize = 580;
 
 // ---- reading
 
-fn number(word: u64) -> usize
-    ensures { result ≡ word }
-{
-    word as usize
-}
-
 // The row of a letter.
 pub(crate) fn row_of(layout: &[u64; 1024], letter: usize) -> usize
     requires { letter < 256 }
     ensures { result ≡ get_or (places_in layout.now) letter 0 }
 {
-    number(layout[letter])
+    layout[letter] as usize
 }
 
 // The own row of a monitor.
@@ -46,7 +42,7 @@ pub(crate) fn own_of(layout: &[u64; 1024], monitor: usize) -> usize
     requires { monitor < 32 }
     ensures { result ≡ get_or (own_in layout.now) monitor 0 }
 {
-    number(layout[OWN + monitor])
+    layout[OWN + monitor] as usize
 }
 
 // The first letter of a monitor.
@@ -54,62 +50,48 @@ pub(crate) fn first_of(layout: &[u64; 1024], monitor: usize) -> usize
     requires { monitor < 32 }
     ensures { result ≡ get_or (firsts_in layout.now) monitor 0 }
 {
-    number(layout[FIRSTS + monitor])
+    layout[FIRSTS + monitor] as usize
 }
 
 // How many monitors there are.
 pub(crate) fn monitors_in(layout: &[u64; 1024]) -> usize
     ensures { result ≡ get_or layout.now 576 0 }
 {
-    number(layout[MONITORS])
+    layout[MONITORS] as usize
 }
 
 // How many letters there are.
 pub(crate) fn letters_in(layout: &[u64; 1024]) -> usize
     ensures { result ≡ get_or layout.now 577 0 }
 {
-    number(layout[LETTERS])
+    layout[LETTERS] as usize
 }
 
 // ---- laying out
-
-fn word(number: u16) -> u64
-    ensures { result ≡ number }
-{
-    number as u64
-}
-
-fn byte_word(byte: u8) -> u64
-    ensures { (result ≡ byte) × (result < 256) }
-{
-    byte as u64
-}
 
 // Numbers into the block, one a word, from a place on.
 fn place_numbers(numbers: &[u16], at: usize, layout: &mut [u64; 1024])
     requires { at + length numbers.now ≤ 1024 }
     ensures { layout.new ≡ sets layout.old at numbers.now }
 {
-    let mut i: usize = 0;
-    while i < numbers.len() {
-        layout[at + i] = word(numbers[i]);
-        i += 1;
+    for (i, number) in numbers.iter().enumerate() {
+        layout[at + i] = u64::from(*number);
     }
 }
 
 // Bytes, which are their own lowest 8 bits.
+// No plainer as one generic function with `place_numbers`: a number of a type parameter is opaque to clauses, so that each caller
+// would owe a law of its word.
 fn place_bytes(bytes: &[u8], at: usize, layout: &mut [u64; 1024])
     requires { at + length bytes.now ≤ 1024 }
     ensures { (layout.new ≡ sets layout.old at bytes.now) × (map (λ x. x % 256) bytes.now ≡ bytes.now) }
 {
-    let mut i: usize = 0;
-    while i < bytes.len() {
-        layout[at + i] = byte_word(bytes[i]);
-        i += 1;
+    for (i, byte) in bytes.iter().enumerate() {
+        layout[at + i] = u64::from(*byte);
     }
 }
 
-// The block of a watch, by its arrays and numbers.
+// The block of words, by the arrays and numbers of a watch.
 pub fn layout_of<'a>(
     places: &'a [u16; 256],
     own: &'a [u16; 32],
@@ -134,4 +116,21 @@ pub fn layout_of<'a>(
     layout[STORES] = stores as u64;
     layout[ROWS] = rows as u64;
     layout
+}
+
+// The block of a watch.
+pub fn layout_of_watch(watch: &Watch) -> [u64; 1024]
+    ensures { LaidOut watch.now result }
+{
+    layout_of(
+        &watch.places,
+        &watch.own,
+        &watch.firsts,
+        &watch.counted,
+        watch.monitors,
+        watch.letters,
+        watch.wires,
+        watch.stores,
+        watch.rows,
+    )
 }

@@ -16,43 +16,48 @@ fn link_value(link: u64, number: u64, word: u64) -> u64
     (word >> (part2(link) % 64)) & number
 }
 
-// Whether the store test in a slot is met, or there is none.
-fn test_met(slot: usize, words: &[u64; 2], tables: &[[u64; 1024]; 4], values: &[u64; 16]) -> bool
-    requires { slot < 1024 }
-    ensures { result ≡ test_met (given tables.now values.now words.now) slot }
-{
-    let link = tables[LINKS][slot];
-    if link == 0 {
-        return true;
-    }
-    word_at(values, part0(link)) == link_value(link, tables[NUMBERS][slot], words[WORD])
+// What the walk judges by: the tables, the tick's word and the one before, and the store values before it.
+// Speed: the marks and the layout go beside it; with them in it a tick took 4 to 7 hundredths longer.
+#[derive(Clone, Copy)]
+pub(crate) struct Tick<'a> {
+    pub(crate) tables: &'a [[u64; 1024]; 4],
+    pub(crate) words: [u64; 2],
+    pub(crate) values: &'a [u64; 16],
 }
 
-// The letter test: wires, wires to be as before, and stores.
-pub(crate) fn letter_met(
-    letter: usize,
-    words: &[u64; 2],
-    tables: &[[u64; 1024]; 4],
-    values: &[u64; 16],
-) -> bool
-    requires { letter < 256 }
-    ensures { result ≡ letter_met (given tables.now values.now words.now) letter }
-{
-    let word = words[WORD];
-    if !passes(
-        tables[LETTERS][letter],
-        tables[LETTERS][WANTED + letter],
-        word,
-    ) {
-        return false;
+impl<'a> Tick<'a> {
+    // Whether the store test in a slot is met, or there is none.
+    fn test_met(&self, slot: usize) -> bool
+        requires { slot < 1024 }
+        ensures { result ≡ test_met (given self.now.tables.now self.now.values.now self.now.words) slot }
+    {
+        let values = self.values;
+        let link = self.tables[LINKS][slot];
+        if link == 0 {
+            return true;
+        }
+        word_at(values, part0(link))
+            == link_value(link, self.tables[NUMBERS][slot], self.words[WORD])
     }
-    if !passes(tables[LETTERS][HELD + letter], words[BEFORE], word) {
-        return false;
+
+    // The letter test: wires, wires to be as before, and stores.
+    pub(crate) fn letter_met(&self, letter: usize) -> bool
+        requires { letter < 256 }
+        ensures { result ≡ letter_met (given self.now.tables.now self.now.values.now self.now.words) letter }
+    {
+        let word = self.words[WORD];
+        let letters = &self.tables[LETTERS];
+        if !passes(letters[letter], letters[WANTED + letter], word) {
+            return false;
+        }
+        if !passes(letters[HELD + letter], self.words[BEFORE], word) {
+            return false;
+        }
+        if !self.test_met(4 * letter) {
+            return false;
+        }
+        self.test_met(4 * letter + 1)
     }
-    if !test_met(4 * letter, words, tables, values) {
-        return false;
-    }
-    test_met(4 * letter + 1, words, tables, values)
 }
 
 // Stores a value; nothing where there is no such store.

@@ -1,6 +1,6 @@
 // The watch at work: `look` answers what a word would come to, and `take` answers the same, tells how many rows the tick touched,
-// and gives the watch that it moved on to. For loops, which must not copy a watch, `tables_of`, `layout_of` and `counts_of` lay out
-// once what the ticks need; `refused_by`, `peek_in` or `step_in`, `is_bad`, `touched_in` and `count_met` are what a look or a take is made of.
+// and gives the watch that it moved on to. For loops, which must not copy a watch, `tables_of`, `layout_of_watch` and `counts_of` lay
+// out once what the ticks need; `refused_by`, `peek_in` or `step_in`, `is_bad`, `touched_in` and `count_met` are what a look or a take is made of.
 // What they answer is said for every watch, also one that no call ever gave (specs/Calls.antt, specs/Ticks.antt,
 // specs/Limited.antt).
 #![tactic(auto)]
@@ -25,24 +25,25 @@ ghost use Rattle.windows.specs.Windows.{counted_in};
 ghost use Rattle.monitor.specs.Tally.{counts as counts_from, touched_of};
 ghost use Rattle.monitor.specs.Limited.{answer_at, is_bad, stepped, tick_of};
 ghost use Rattle.monitor.specs.Calls.{state_of, with_state, refused_by, reply_of, touched_for, watch_after};
-ghost use Rattle.monitor.specs.Shown.{shown_answer};
+ghost use Rattle.monitor.specs.Shown.{shown_answer, shown_refusal};
 
 use busy::shut_marked;
 pub use counts::counts_of;
 use counts::{COSTS, PLACES};
-pub use layout::layout_of;
 use layout::{letters_in, monitors_in};
-use letters::write_letter;
+pub use layout::{layout_of, layout_of_watch};
+use letters::{Tick, write_letter};
 use limits::{answer_by, pass_tick, tick_mask};
 use marks::{first_marked, put_marks};
 use positions::monitors_go;
 pub use positions::{letter_at, letters_end};
+use refusals::Refusal;
 use rules::Watch;
 pub use tables::tables_of;
 use tables::{LETTERS, THREADS};
 pub use tally::{touched, touched_in};
 pub use totals::count_met;
-use words::{least, part1, part2, part3};
+use words::{part1, part2, part3};
 
 // ---- what a good tick leaves
 
@@ -74,6 +75,7 @@ fn write_marked(
     requires { letters ≤ 256 }
     ensures { (S : List ℕ) → values.new ≡ write_marked (given tables.now S words.now) marks.now letters 0 values.old }
 {
+    // Speed: from mark to mark; a `for` that asks each letter takes up to three times as long, since most are unmarked.
     let mut i = first_marked(marks, 0, letters);
     while i < letters {
         write_if(i, words, marks, tables, values);
@@ -85,26 +87,20 @@ fn write_marked(
 
 // Every active position of every monitor, of 32 monitors and 256 letters at most, with the threads shut that are busy: the first
 // monitor that does not go on, or how many there are. This is what a look and a take have in common.
-fn walk_on(
-    layout: &[u64; 1024],
-    marks: &[u8; 288],
-    tables: &[[u64; 1024]; 4],
-    memory: &mut [u8; 1280],
-    words: &[u64; 2],
-    values: &[u64; 16],
-) -> usize
-    ensures { reached result memory.new ≡ monitors_go (given tables.now values.now words.now) (within (layout_in layout.now)) marks.now (within (layout_in layout.now)).monitors 0 (shut_busy (given tables.now values.now words.now) marks.now (within (layout_in layout.now)).letters memory.old) }
+fn walk_on(layout: &[u64; 1024], marks: &[u8; 288], tick: &Tick, memory: &mut [u8; 1280]) -> usize
+    ensures { reached result memory.new ≡ monitors_go (given tick.now.tables.now tick.now.values.now tick.now.words) (within (layout_in layout.now)) marks.now (within (layout_in layout.now)).monitors 0 (shut_busy (given tick.now.tables.now tick.now.values.now tick.now.words) marks.now (within (layout_in layout.now)).letters memory.old) }
 {
-    let count = least(monitors_in(layout), 32);
-    let end = least(letters_in(layout), 256);
-    let from = part3(tables[LETTERS][THREADS]);
-    let to = least(part2(tables[LETTERS][THREADS]), end);
-    shut_marked(from, to, marks, tables, memory);
-    monitors_go(count, end, marks, layout, tables, memory, words, values)
+    let count = monitors_in(layout).min(32);
+    let end = letters_in(layout).min(256);
+    let from = part3(tick.tables[LETTERS][THREADS]);
+    let to = part2(tick.tables[LETTERS][THREADS]).min(end);
+    shut_marked(from, to, marks, tick.tables, memory);
+    monitors_go(count, end, marks, layout, tick, memory)
 }
 
 // The answer to a good tick. A bad one is answered with the first monitor that does not go on, or with 32 and the lowest limit that
-// the tick is beyond.
+// the tick is beyond. A number and no enum: `peek-in-entry`, `step-in-entry` and `is-bad-entry` among the
+// demands say what is answered by `answer_at`, `tick_of` and `is_bad` of any such number, and C is handed it as it is.
 const FINE: usize = 40;
 
 // Whether an answer is that to a bad tick.
@@ -127,9 +123,13 @@ pub fn peek_in<'a>(
 ) -> usize
     ensures { result ≡ answer_at (given tables.now values.now (word ∷ past ∷ [])) (layout_in layout.now) marks.now (counted_in layout.now) windows.now }
 {
-    let pair = [word, past];
+    let tick = Tick {
+        tables,
+        words: [word, past],
+        values,
+    };
     let mut memory = [0u8; 1280];
-    let monitor = walk_on(layout, marks, tables, &mut memory, &pair, values);
+    let monitor = walk_on(layout, marks, &tick, &mut memory);
     let letters = letters_in(layout);
     let mask = tick_mask(letters, &memory, layout, windows);
     answer_by(monitor, monitors_in(layout), windows, mask)
@@ -149,8 +149,13 @@ pub fn step_in<'a>(
     ensures { stepped result marks.new values.new windows.new ≡ tick_of (given tables.now values.old (word ∷ past ∷ [])) (layout_in layout.now) marks.old (counted_in layout.now) windows.old }
 {
     let words = [word, past];
+    let tick = Tick {
+        tables,
+        words,
+        values,
+    };
     let mut memory = [0u8; 1280];
-    let monitor = walk_on(layout, marks, tables, &mut memory, &words, values);
+    let monitor = walk_on(layout, marks, &tick, &mut memory);
     let letters = letters_in(layout);
     let mask = tick_mask(letters, &memory, layout, windows);
     let number = answer_by(monitor, monitors_in(layout), windows, mask);
@@ -158,13 +163,14 @@ pub fn step_in<'a>(
         return number;
     }
     put_marks(&memory, marks);
-    let writers = least(part1(tables[LETTERS][THREADS]), least(letters, 256));
+    let writers = part1(tables[LETTERS][THREADS]).min(letters.min(256));
     write_marked(writers, &words, marks, tables, values);
     pass_tick(windows, mask);
     number
 }
 
-// The same as `peek_in`, with the arrays and numbers that the block is laid out from.
+// The same as `peek_in`, with the arrays and numbers that the block is laid out from. It stays beside it: it has a demand of its
+// own (`peek-entry`), as `step` and `touched` have.
 pub fn peek<'a>(
     tables: &'a [[u64; 1024]; 4],
     places: &'a [u16; 256],
@@ -208,19 +214,18 @@ pub fn step<'a>(
 
 // ---- calls
 
-#[derive(Clone, Copy)]
-pub enum Answer {
-    Ok,
+// Why a word is not ok.
+#[derive(Clone, Copy, Debug, PartialEq, Eq)]
+pub enum Fault {
     // The monitor, or 32 and the limit.
     Bad(usize),
-    // The refusal's number.
-    Refused(u8),
+    Refused(Refusal),
 }
 
-// What a take answers, and the watch for the next call.
+// What a take answers, and the watch for the next call, which a fault leaves as well.
 #[derive(Clone, Copy)]
 pub struct Taken {
-    pub answer: Answer,
+    pub answer: Result<(), Fault>,
     // How many rows the tick touched; 0 if the take is refused.
     pub touched: usize,
     pub watch: Watch,
@@ -236,20 +241,20 @@ fn stray(wires: usize, word: u64) -> bool
     word >> wires != 0
 }
 
-// The number of a call that is refused (W3 to W5), or 0.
-pub fn refused_by(stopped: bool, ticks: u64, wires: usize, word: u64) -> u8
-    ensures { result ≡ refused_by stopped ticks wires word }
+// Why a call is refused (W3 to W5), if it is.
+pub fn refused_by(stopped: bool, ticks: u64, wires: usize, word: u64) -> Option<Refusal>
+    ensures { shown_refusal result ≡ refused_by stopped ticks wires word }
 {
     if stopped {
-        return 16;
+        return Some(Refusal::Stopped);
     }
     if 1000000 <= ticks {
-        return 17;
+        return Some(Refusal::Full);
     }
     if stray(wires, word) {
-        return 15;
+        return Some(Refusal::Stray);
     }
-    0
+    None
 }
 
 // The watch after a bad tick: stopped, and otherwise as before it.
@@ -284,25 +289,15 @@ fn moved_on(
 }
 
 // What the word would come to. It leaves the watch: there is none to give back.
-pub fn look(watch: Watch, word: u64) -> Answer
+pub fn look(watch: Watch, word: u64) -> Result<(), Fault>
     ensures { shown_answer result ≡ reply_of watch word }
 {
-    let refusal = refused_by(watch.stopped, watch.ticks, watch.wires, word);
-    if refusal != 0 {
-        return Answer::Refused(refusal);
+    let refused = refused_by(watch.stopped, watch.ticks, watch.wires, word);
+    if let Some(refusal) = refused {
+        return Err(Fault::Refused(refusal));
     }
-    let tables = tables_of(watch);
-    let layout = layout_of(
-        &watch.places,
-        &watch.own,
-        &watch.firsts,
-        &watch.counted,
-        watch.monitors,
-        watch.letters,
-        watch.wires,
-        watch.stores,
-        watch.rows,
-    );
+    let tables = tables_of(&watch);
+    let layout = layout_of_watch(&watch);
     let answer = peek_in(
         &tables,
         &layout,
@@ -313,9 +308,9 @@ pub fn look(watch: Watch, word: u64) -> Answer
         word,
     );
     if is_bad(answer) {
-        return Answer::Bad(answer);
+        return Err(Fault::Bad(answer));
     }
-    Answer::Ok
+    Ok(())
 }
 
 // How many rows a tick touches, by the counts as `counts_of` gives them.
@@ -335,27 +330,16 @@ fn touched_by<'a>(
 pub fn take(watch: Watch, word: u64) -> Taken
     ensures { (shown_answer result.answer ≡ reply_of watch word) × (result.touched ≡ touched_for watch word) × (result.watch ≡ watch_after watch word) }
 {
-    let number = refused_by(watch.stopped, watch.ticks, watch.wires, word);
-    if number != 0 {
+    if let Some(refusal) = refused_by(watch.stopped, watch.ticks, watch.wires, word) {
         return Taken {
-            answer: Answer::Refused(number),
+            answer: Err(Fault::Refused(refusal)),
             touched: 0,
             watch,
         };
     }
-    let tables = tables_of(watch);
-    let layout = layout_of(
-        &watch.places,
-        &watch.own,
-        &watch.firsts,
-        &watch.counted,
-        watch.monitors,
-        watch.letters,
-        watch.wires,
-        watch.stores,
-        watch.rows,
-    );
-    let counts = counts_of(watch);
+    let tables = tables_of(&watch);
+    let layout = layout_of_watch(&watch);
+    let counts = counts_of(&watch);
     let rows = touched_by(&tables, &layout, &counts, &watch.marks);
     let mut marks = watch.marks;
     let mut values = watch.values;
@@ -372,7 +356,7 @@ pub fn take(watch: Watch, word: u64) -> Taken
     if is_bad(answer) {
         let next = stopped(watch);
         return Taken {
-            answer: Answer::Bad(answer),
+            answer: Err(Fault::Bad(answer)),
             touched: rows,
             watch: next,
         };
@@ -381,7 +365,7 @@ pub fn take(watch: Watch, word: u64) -> Taken
     count_met(watch.letters, &marks, &mut totals);
     let next = moved_on(watch, marks, values, totals, windows, word);
     Taken {
-        answer: Answer::Ok,
+        answer: Ok(()),
         touched: rows,
         watch: next,
     }

@@ -5,7 +5,6 @@ ghost use Rattle.windows.specs.Windows.{counted_in};
 ghost use Rattle.monitor.specs.Limited.{tick_mask, answer_by, windows_after};
 
 use windows::{first_beyond, met_mask_in, pass};
-use words::least;
 
 // Where the windows have the number of limits.
 const LIMITS: usize = 1049;
@@ -33,8 +32,8 @@ pub(crate) fn tick_mask(
 pub(crate) fn answer_by(monitor: usize, monitors: usize, windows: &[u16; 1056], mask: u8) -> usize
     ensures { result ≡ answer_by monitor monitors windows.now mask }
 {
-    let limit = FIRST + first_beyond(windows, mask);
-    if monitor < least(monitors, 32) {
+    let limit = FIRST + first_beyond(windows, mask).unwrap_or(8);
+    if monitor < monitors.min(32) {
         return monitor;
     }
     limit

@@ -1,5 +1,5 @@
 // The tables that a tick is lent, laid out once for many ticks (specs/Calls.antt): through one reference, so that the walk's calls
-// pass few arguments.
+// pass few arguments. Arrays of fixed length, with their counts in a word: the C interface lends them so.
 ghost use Rattle.std.specs.Prelude.{◌≡◌, ◌+◌, ◌≤◌, length};
 ghost use Rattle.std.proofs.lemmas.List.Edits.{sets};
 ghost use Rattle.monitor.specs.Calls.{writers_of, threaded_of, unthreaded_of, tables_of};
@@ -26,7 +26,7 @@ pub(crate) const HELD: usize = 512;
 
 // From here on, in part 0, the row of the thread that each letter goes on in, or 0. In the first of these words also how many
 // letters there are up to the last that writes (part 1), up to the last that goes on in a thread (part 2) and before the first that
-// does (part 3).
+// does (part 3). 0 and no Option: the C interface lends these words.
 pub(crate) const THREADS: usize = 768;
 
 // The two words of a tick: its own, and the one before.
@@ -39,28 +39,19 @@ fn place(words: &[u64; 256], at: usize, table: &mut [u64; 1024])
     requires { (at + 256 ≤ 1024) × (length words.now ≡ 256) }
     ensures { table.new ≡ sets table.old at words.now }
 {
-    let mut i: usize = 0;
-    while i < 256 {
-        table[at + i] = words[i];
-        i += 1;
-    }
+    table[at..at + 256].copy_from_slice(words);
 }
 
 // Of so many letters those up to the last that has a write.
+// No plainer as an Option, here and below: a count, which is 0 where there are none, and the loops go over so many.
 fn writers_of(links: &[u64; 1024], letters: usize) -> usize
     requires { letters ≤ 256 }
     ensures { result ≡ writers_of links.now letters }
 {
-    let mut n = letters;
-    while 0 < n {
-        let last = n - 1;
-        if links[4 * last + 2] != 0 {
-            return n;
+    for letter in (0..letters).rev() {
+        if links[4 * letter + 2] != 0 || links[4 * letter + 3] != 0 {
+            return letter + 1;
         }
-        if links[4 * last + 3] != 0 {
-            return n;
-        }
-        n = last;
     }
     0
 }
@@ -69,34 +60,22 @@ fn writers_of(links: &[u64; 1024], letters: usize) -> usize
 fn threaded_of(threads: &[u64; 256]) -> usize
     ensures { result ≡ threaded_of threads.now 256 }
 {
-    let mut n: usize = 256;
-    while 0 < n {
-        let last = n - 1;
-        if threads[last] != 0 {
-            return n;
-        }
-        n = last;
-    }
-    0
+    threads
+        .iter()
+        .rposition(|row| *row != 0)
+        .map_or(0, |letter| letter + 1)
 }
 
 // How many letters there are before the first that goes on in a thread.
 fn unthreaded_of(threads: &[u64; 256]) -> usize
     ensures { result ≡ unthreaded_of threads.now 256 }
 {
-    let mut letter: usize = 0;
-    while letter < 256 {
-        if threads[letter] != 0 {
-            return letter;
-        }
-        letter += 1;
-    }
-    letter
+    threads.iter().position(|row| *row != 0).unwrap_or(256)
 }
 
 // The tables of a watch.
-pub fn tables_of(watch: Watch) -> [[u64; 1024]; 4]
-    ensures { result ≡ tables_of watch }
+pub fn tables_of(watch: &Watch) -> [[u64; 1024]; 4]
+    ensures { result ≡ tables_of watch.now }
 {
     let rows = watch.table;
     let links = watch.links;

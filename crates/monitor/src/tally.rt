@@ -8,7 +8,7 @@ use super::layout::{layout_of, letters_in, monitors_in, own_of, row_of};
 use super::marks::first_marked;
 use super::tables::ROWS;
 use counts::{COSTS, PLACES, count_in};
-use words::{least, part0, part1, part2, part3, word_at};
+use words::{part0, part1, part2, part3, word_at};
 
 // The largest number that is told. No accepted text touches as many rows.
 const MOST: usize = 65535;
@@ -18,7 +18,7 @@ fn more(count: usize, new: usize) -> usize
     requires { (count ≤ 65535) × (new ≤ 65535) }
     ensures { result ≡ min (count + new) 65535 }
 {
-    least(count + new, MOST)
+    (count + new).min(MOST)
 }
 
 // The key of the thread that a row stands in.
@@ -48,6 +48,7 @@ fn ask_thread(
 }
 
 // The threads of a chain, each of an `@` further up. The chain is told by one more than a row, or 0.
+// No plainer as a `for`: it goes from row to row by what the row's word tells, and not over a range.
 fn ask_threads(
     first: usize,
     tables: &[[u64; 1024]; 4],
@@ -110,6 +111,7 @@ fn touch_marked(
     ensures { result ≡ min (touch_marked (counts_by (get_or tables.now 0 []) places.now costs.now (places_in layout.now)) marks.now letters 0 asked.old).count 65535 }
 {
     let mut count: usize = 0;
+    // Speed: from mark to mark, as in `write_marked`.
     let mut letter = first_marked(marks, 0, letters);
     while letter < letters {
         count = more(
@@ -148,10 +150,8 @@ fn touch_starts(
     ensures { (T P L : List ℕ) → result ≡ min (touch_starts (counts_by T P costs.now L) (own_in layout.now) marks.now monitors 0) 65535 }
 {
     let mut count: usize = 0;
-    let mut monitor: usize = 0;
-    while monitor < monitors {
+    for monitor in 0..monitors {
         count = more(count, touch_start(monitor, marks, layout, costs));
-        monitor += 1;
     }
     count
 }
@@ -167,8 +167,8 @@ pub fn touched_in<'a>(
 ) -> usize
     ensures { result ≡ min (touched_of (counts_by (get_or tables.now 0 []) places.now costs.now (places_in layout.now)) (own_in layout.now) marks.now (get_or layout.now 576 0) (get_or layout.now 577 0)) 65535 }
 {
-    let monitors = least(monitors_in(layout), 32);
-    let letters = least(letters_in(layout), 256);
+    let monitors = monitors_in(layout).min(32);
+    let letters = letters_in(layout).min(256);
     let mut asked = [0u8; 256];
     more(
         touch_starts(monitors, marks, layout, costs),

@@ -2,7 +2,7 @@
 ghost use Rattle.std.specs.Prelude.{◌≡◌, ◌<◌};
 ghost use Rattle.monitor.specs.Threads.{going_on, operand_number, row_number, thread_of, with_thread, threads_of};
 
-use words::{least, part0, part1, part3};
+use words::{RowKind, part1, part3};
 
 // The number of a row below a `*` or in the left operand of a `,`: the thread of the row above, in which more may follow.
 fn going_on(number: u16) -> u16
@@ -16,27 +16,14 @@ fn operand_number(above: u64, number: u16, row: usize) -> u16
     requires { row < 1024 }
     ensures { result ≡ operand_number above number row }
 {
-    let kind = part0(above);
-    let left = part1(above);
-    if kind == 1 {
-        if left == row {
-            return going_on(number);
-        }
-        return number;
+    let is_left = part1(above) == row;
+    match RowKind::of(above) {
+        Some(RowKind::Sequence) => if is_left { going_on(number) } else { number },
+        Some(RowKind::Alternative) => number,
+        Some(RowKind::Star) => going_on(number),
+        Some(RowKind::Pipe) => if is_left { number } else { 2 * (row as u16) },
+        Some(RowKind::Letter) | None => 0,
     }
-    if kind == 2 {
-        return number;
-    }
-    if kind == 3 {
-        return going_on(number);
-    }
-    if kind == 4 {
-        if left == row {
-            return number;
-        }
-        return 2 * (row as u16);
-    }
-    0
 }
 
 // The number of a row, by those of the rows before it.
@@ -51,26 +38,25 @@ fn row_number(table: &[u64; 1024], numbers: &[u16; 1024], row: usize) -> u16
     0
 }
 
-// The row of the thread that a letter goes on in, by its row's number.
+// The row of the thread that a letter goes on in, by its row's number. 0 for none, as the tables have it (`THREADS`).
 fn thread_of(number: u16) -> u64
     ensures { result ≡ thread_of number }
 {
     if number % 2 == 0 {
         return 0;
     }
-    (number / 2) as u64
+    u64::from(number / 2)
 }
 
 // Stores the row of the thread that the letter of a row goes on in, or 0, if the row's word is a letter's.
 fn put_thread(word: u64, number: u16, threads: &mut [u64; 256])
     ensures { threads.new ≡ with_thread threads.old word number }
 {
-    if part0(word) != 0 {
-        return;
-    }
-    let letter = part1(word);
-    if letter < 256 {
-        threads[letter] = thread_of(number);
+    if let Some(RowKind::Letter) = RowKind::of(word) {
+        let letter = part1(word);
+        if letter < 256 {
+            threads[letter] = thread_of(number);
+        }
     }
 }
 
@@ -78,15 +64,13 @@ fn put_thread(word: u64, number: u16, threads: &mut [u64; 256])
 pub(crate) fn threads_of(table: &[u64; 1024], rows: usize) -> [u64; 256]
     ensures { result ≡ threads_of table.now rows }
 {
-    let count = least(rows, 1024);
+    let count = rows.min(1024);
     let mut numbers = [0u16; 1024];
     let mut threads = [0u64; 256];
-    let mut row: usize = 0;
-    while row < count {
+    for row in 0..count {
         let number = row_number(table, &numbers, row);
         numbers[row] = number;
         put_thread(table[row], number, &mut threads);
-        row += 1;
     }
     threads
 }

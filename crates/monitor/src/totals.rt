@@ -2,9 +2,6 @@
 ghost use Rattle.std.specs.Prelude.{◌≡◌, cond, suc, ◌+◌, ◌<◌, ◌≤◌, ◌%◌, min, eqb};
 ghost use Rattle.monitor.specs.Ticks.{if_marked, each_marked, one_more, count_met};
 
-use super::marks::quiet;
-use words::least;
-
 // A total, with one more if its letter is marked. It has 32 bits; no watch that calls gave comes near their end.
 fn counted(total: u32, mark: u8) -> u32
     ensures { result ≡ cond (eqb mark 0) total (suc total % 4294967296) }
@@ -12,7 +9,7 @@ fn counted(total: u32, mark: u8) -> u32
     if mark == 0 {
         return total;
     }
-    ((total as u64 + 1) % 4294967296) as u32
+    total.wrapping_add(1)
 }
 
 // One letter. An unmarked one is stored as it was, since a branch to pass over it would cost more: nothing foretells it.
@@ -23,38 +20,11 @@ fn count_if(letter: usize, marks: &[u8; 288], totals: &mut [u32; 256])
     totals[letter] = counted(totals[letter], marks[letter]);
 }
 
-// Eight letters.
-fn count_eight(from: usize, marks: &[u8; 288], totals: &mut [u32; 256])
-    requires { from + 8 ≤ 256 }
-    ensures { totals.new ≡ each_marked marks.now one_more 8 from totals.old }
-{
-    count_if(from, marks, totals);
-    count_if(from + 1, marks, totals);
-    count_if(from + 2, marks, totals);
-    count_if(from + 3, marks, totals);
-    count_if(from + 4, marks, totals);
-    count_if(from + 5, marks, totals);
-    count_if(from + 6, marks, totals);
-    count_if(from + 7, marks, totals);
-}
-
-// Adds one to the total of each marked letter, of 256 at most. Eight of which none is marked are passed over together.
+// Adds one to the total of each marked letter, of 256 at most.
 pub fn count_met(letters: usize, marks: &[u8; 288], totals: &mut [u32; 256])
     ensures { totals.new ≡ count_met marks.now (min letters 256) totals.old }
 {
-    let end = least(letters, 256);
-    let mut letter: usize = 0;
-    while letter < end {
-        if quiet(marks, letter, end) {
-            letter += 8;
-        } else {
-            if letter + 8 <= end {
-                count_eight(letter, marks, totals);
-                letter += 8;
-            } else {
-                count_if(letter, marks, totals);
-                letter += 1;
-            }
-        }
+    for letter in 0..letters.min(256) {
+        count_if(letter, marks, totals);
     }
 }

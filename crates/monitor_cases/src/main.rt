@@ -7,23 +7,14 @@ mod show;
 
 use rules::Watch;
 use std::io;
-use words::quad;
-
-// The kinds of rows.
-const SEQUENCE: usize = 1;
-
-const ALTERNATIVE: usize = 2;
-
-const STAR: usize = 3;
-
-const PIPE: usize = 4;
+use words::{RowKind, quad};
 
 // Rows of one kind. The operands of a row and the row above it are so many rows further on, and the last is followed by the first.
-fn circle(kind: usize, left: usize, right: usize, up: usize) -> [u64; 1024] {
+fn circle(kind: RowKind, left: usize, right: usize, up: usize) -> [u64; 1024] {
     let mut rows = [0u64; 1024];
-    for i in 0..1024 {
-        rows[i] = quad(
-            kind,
+    for (i, row) in rows.iter_mut().enumerate() {
+        *row = quad(
+            kind.number(),
             (i + left % 1024) % 1024,
             (i + right % 1024) % 1024,
             (i + up % 1024) % 1024,
@@ -33,17 +24,17 @@ fn circle(kind: usize, left: usize, right: usize, up: usize) -> [u64; 1024] {
 }
 
 // The same, but for the last row: an `@` whose left operand is the first row, so that who comes there from another has ended a thread.
-fn line(kind: usize) -> [u64; 1024] {
+fn line(kind: RowKind) -> [u64; 1024] {
     let mut rows = circle(kind, 1, 1, 1);
-    rows[1023] = quad(PIPE, 0, 0, 0);
+    rows[1023] = quad(RowKind::Pipe.number(), 0, 0, 0);
     rows
 }
 
 // Letters at each fourth row.
 fn fourth() -> [u16; 256] {
     let mut places = [0u16; 256];
-    for i in 0..256 {
-        places[i] = (4 * i) as u16;
+    for (i, place) in places.iter_mut().enumerate() {
+        *place = (4 * i) as u16;
     }
     places
 }
@@ -51,9 +42,7 @@ fn fourth() -> [u16; 256] {
 // All letters are marked, and all monitors are at their start, or none.
 fn marked(starts: u8) -> [u8; 288] {
     let mut marks = [1u8; 288];
-    for i in 256..288 {
-        marks[i] = starts;
-    }
+    marks[256..].fill(starts);
     marks
 }
 
@@ -93,25 +82,25 @@ fn call(
         windows: [65535; 1056],
     };
     let looked = monitor::look(watch, 0);
-    show::answer(rt, "look ", looked)?;
+    show::answer(rt, "look", looked)?;
     let taken = monitor::take(watch, 0);
     let answer = taken.answer;
-    show::answer(rt, "take ", answer)
+    show::answer(rt, "take", answer)
 }
 
 fn main(rt: HostRuntime) -> io::Result<()> {
     // each operand is the next row, or the row itself, or rows further on: no letter is ever reached
-    call(&rt, circle(ALTERNATIVE, 1, 1, 1), 1, 0, false)?;
-    call(&rt, circle(ALTERNATIVE, 0, 0, 1), 1, 0, false)?;
-    call(&rt, circle(SEQUENCE, 2, 3, 5), 1, 0, false)?;
+    call(&rt, circle(RowKind::Alternative, 1, 1, 1), 1, 0, false)?;
+    call(&rt, circle(RowKind::Alternative, 0, 0, 1), 1, 0, false)?;
+    call(&rt, circle(RowKind::Sequence, 2, 3, 5), 1, 0, false)?;
     // stars around stars: each can be left, and the one above is asked again
-    call(&rt, circle(STAR, 1, 0, 1), 1, 0, false)?;
+    call(&rt, circle(RowKind::Star, 1, 0, 1), 1, 0, false)?;
     // every letter is left up a long line, which ends
-    call(&rt, line(ALTERNATIVE), 0, 0, false)?;
+    call(&rt, line(RowKind::Alternative), 0, 0, false)?;
     // and up one that does not
-    call(&rt, circle(ALTERNATIVE, 1, 1, 1), 0, 0, false)?;
+    call(&rt, circle(RowKind::Alternative, 1, 1, 1), 0, 0, false)?;
     // the last tick that there is, and one more; a stopped watch is that first
-    call(&rt, line(ALTERNATIVE), 0, 999999, false)?;
-    call(&rt, line(ALTERNATIVE), 0, 1000000, false)?;
-    call(&rt, line(ALTERNATIVE), 0, 1000000, true)
+    call(&rt, line(RowKind::Alternative), 0, 999999, false)?;
+    call(&rt, line(RowKind::Alternative), 0, 1000000, false)?;
+    call(&rt, line(RowKind::Alternative), 0, 1000000, true)
 }

@@ -1,24 +1,12 @@
 // Prints calls and their answers.
-use monitor::Answer;
+use monitor::Fault;
 use std::io;
 
-fn print(rt: &impl Print, text: &str) -> io::Result<()> {
-    print!(rt; "{text}")
-}
-
-// A word and a number.
-fn numbered(rt: &impl Print, text: &str, n: u64) -> io::Result<()> {
-    print(rt, text)?;
-    print!(rt; "{n}")?;
-    print(rt, "\n")
-}
-
 // A call, and what it was answered with.
-pub fn answer(rt: &impl Print, call: &str, answer: Answer) -> io::Result<()> {
-    print(rt, call)?;
+pub fn answer(rt: &impl Print, call: &str, answer: Result<(), Fault>) -> io::Result<()> {
     match answer {
-        Answer::Ok => print(rt, "ok\n"),
-        Answer::Bad(monitor) => numbered(rt, "bad ", monitor as u64),
-        Answer::Refused(number) => numbered(rt, "refused ", number as u64),
+        Ok(()) => println!(rt; "{call} ok"),
+        Err(Fault::Bad(place)) => println!(rt; "{call} bad {place}"),
+        Err(Fault::Refused(refusal)) => println!(rt; "{call} refused {}", refusal.number()),
     }
 }

@@ -11,9 +11,16 @@ use Rattle.lexer.specs.Tokens.{Token, Placed, token_at, rule_words}
 use Rattle.meaning.specs.Expression.{Literal, Exp, as_production}
 use Rattle.meaning.specs.Reading.{statement, define_name, new_level, Open, closing, in_define, literal, literal_more, operand, operand_more, Step, is_sign, is, choose, not_here, behind_literal, behind_operand, step}
 use Rattle.meaning.specs.Names.{Names, a_define, a_production, new_define, new_production, declare}
-use Rattle.rules.specs.declared.literals.Condition.{Condition}
+use Rattle.std.specs.Prelude.{Result, Ok, Err}
+use Rattle.rules.specs.declared.tokens.Misread.{Misread}
 use Rattle.rules.specs.declared.literals.Literals.{Literals}
-use Rattle.rules.specs.declared.expression.Parsed.{Parsed}
+use Rattle.rules.specs.Misreads.{fault_in, at_in}
+use Rattle.rules.specs.Conditions.{told_literals}
+use Rattle.rules.specs.Defined.{DefineRead}
+use Rattle.rules.proofs.Misreads as refusals
+use Rattle.rules.specs.declared.literals.Condition.{Condition}
+use Rattle.rules.specs.Conditions.{LiteralsTold}
+use Rattle.rules.specs.Expressions.{ParsedTold}
 use Rattle.rules.specs.declared.parts.Part.{Part}
 use Rattle.words.specs.Words.{quad, part0, part1, part2, part3}
 use Rattle.rules.specs.Cells.{at, flag, Links, tests_on, Denotes, Means, HeldIs}
@@ -48,7 +55,7 @@ module _ (text P : List ℕ) (pos c h : ℕ) (g : Named text P pos c h) (q : Con
   pub literals-given : Given text P pos c h q
   literals-given = record { room = g.room; names = g.names; condition = ([], no-literals) }
 
-  module _ (l : Literals) (Q : List ℕ) (a : Adds text (λ ns x ls. read_from text pos ns (literal x ls)) P pos c h q 6 l Q) where
+  module _ (l : LiteralsTold) (Q : List ℕ) (a : Adds text (λ ns x ls. read_from text pos ns (literal x ls)) P pos c h q 6 l Q) where
     pub first-fails : (l.fault ≡ 0 → ⊥)
         → Defines text P pos c h (List Literal) (ConditionIs Q l.free l.condition) (λ s. literal (in_define s) []) new_define l.fault l.at l.free Q
     first-fails n = record { long = a.long; outcome = faulted n (λ ns k u v s w. ill a.outcome n ns k [] no-literals (in_define s) refl) }
@@ -61,7 +68,7 @@ module _ (text P : List ℕ) (pos c h : ℕ) (g : Named text P pos c h) (q : Con
           let (ms, b, on) = d.reads ns k [] no-literals in
           record { room = room_after g.room d.extends d.spent; names = (ns, cells-kept P c Q l.free d.extends text h ns.declared k); condition = (ms, b) }
 
-      pub all_read : (m : Literals) (R : List ℕ) → AllAdded text (λ ns x ls. read_from text l.at ns (literal_more x ls)) Q l.at l.free h l.condition 6 m R
+      pub all_read : (m : LiteralsTold) (R : List ℕ) → AllAdded text (λ ns x ls. read_from text l.at ns (literal_more x ls)) Q l.at l.free h l.condition 6 m R
           → Defines text P pos c h (List Literal) (ConditionIs R m.free m.condition) (λ s. literal (in_define s) []) new_define m.fault m.at m.free R
       all_read m R b = record { long = b.adds.long ∙ a.long; outcome = by b.adds.outcome }
         where
@@ -123,7 +130,7 @@ expression-end : (text : List ℕ) (pos : ℕ) → Closes text pos → (ns : Nam
 expression-end text pos l ns s e =
     on-token text pos _ refl ns _ _ (closes ns s e (token_at rule_words text pos) l.pipe l.comma l.bars) ∙ sym (on-token text pos _ refl ns (closing (new_production s e)) _ refl)
 
-pub expression-read : (text P : List ℕ) (pos c h : ℕ) (r : Parsed) (Q : List ℕ) → Whole text P pos c h 32 r Q
+pub expression-read : (text P : List ℕ) (pos c h : ℕ) (r : ParsedTold) (Q : List ℕ) → Whole text P pos c h 32 r Q
     → Defines text P pos c h Exp (PartIs Q r.free r.part) (λ s. operand (new_open s)) new_production r.fault r.at r.free Q
 expression-read text P pos c h r Q w = record { long = w.task.long; outcome = by w.task.outcome }
   where
@@ -300,3 +307,10 @@ define-declares k s ls ns z = refl
 pub production-declares : (k : ℕ) (s : List ℕ) (e : Exp) (ns : Names) → k ≡ length ns.declared → declare (new_production s e) ns ≡ with_meaning s (a_production (as_production k e)) ns
 unfolding declare
 production-declares k s e ns z = rw z
+
+-- a refusal is the same whatever stands for what it has not
+pub define-from : (text P : List ℕ) (pos c h d : ℕ) (q : Condition) (r : Result Literals Misread) (Q : List ℕ)
+    → Defines text P pos c h (List Literal) (ConditionIs Q (told_literals d q r).free (told_literals d q r).condition) (λ s. literal (in_define s) []) new_define (fault_in r) (at_in (λ l. l.at) r)
+    (told_literals d q r).free Q → DefineRead text P pos c h r Q
+define-from text P pos c h d q (Ok l) Q a = a
+define-from text P pos c h d q (Err e) Q a = record { long = a.long; outcome = faulted (refusals.some e.why) (ill a.outcome (refusals.some e.why)) }

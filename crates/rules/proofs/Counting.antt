@@ -1,22 +1,22 @@
 -- Which limits count a letter, the letters of an expression, and those of all monitors. Assumes nothing.
 use mathlib.Core.Path.{◌≡◌, refl, sym, ◌∙◌, ap}
 use mathlib.Core.Bool.{Bool, true, false, ◌||◌}
-use mathlib.Core.List.{List, [], ◌∷◌, ◌++◌, map-append}
+use mathlib.Core.List.{List, [], ◌∷◌, ◌++◌, map-append, append_assoc, append-nil}
+use Rattle.std.proofs.lemmas.List.{nil_from_length}
 use Prim.Native.Nat.{ℕ, suc, ◌+◌, ◌*◌, ◌^◌, ◌<◌, ◌≤◌}
 use native.Mathlib.Nat.{lt_of_lt_of_le}
-use native.Mathlib.Numerals.{add-one}
 use native.Mathlib.Omega.{arith}
 use borrow.Author.Tests.{eq-eqb, ne_eqb}
-use lib.ListN.{length, length-map, length-drop, get_or, drop, replicate, set}
+use lib.ListN.{length, length-append, length-map, get_or, replicate, set}
 use lib.Pow.{pow_mono}
-use lib.Seq.{sets, length-take-le, drop-cons, drop-length, get_or-take, get_or-drop}
+use lib.Seq.{sets}
 use Rattle.meaning.specs.Lists.{member, each, total}
 use Rattle.meaning.specs.Expression.{Letter, Exp, letters, size}
 use Rattle.words.specs.Words.{part0, part1, part2}
 use Rattle.rules.specs.Cells.{at, flag, letter_kind}
 use Rattle.rules.specs.Laying.{LetterAt, SomeLetter}
 use Rattle.rules.specs.Monitors.{MonitorsAre, FewLetters}
-use Rattle.rules.specs.Counted.{word_mask, limit_words, masks_of, LettersAt, SomeLetters, MasksStored}
+use Rattle.rules.specs.Counted.{word_mask, masks_of, LettersAt, SomeLetters, MasksStored}
 use Rattle.rules.proofs.PartLaws.{node_of, flag_small}
 use Rattle.rules.proofs.Placing.{form, some-room, letters-long, letter_at, first-of, a-star, Two, two, two_size, two-letters}
 use Rattle.rules.proofs.LongRun.{Ahead, Next, all-ahead, next-ahead, none_ahead}
@@ -44,37 +44,40 @@ mask_below (w ∷ ws) ps = by (flag (member (part0 w) ps)) (word_mask ws ps) (le
 pub mask-small : (ws ps : List ℕ) → length ws ≤ 8 → word_mask ws ps < 256
 mask-small ws ps l = lt_of_lt_of_le (mask_below ws ps) (pow_mono {j = 8} l)
 
--- the limits from number i on that count the letter at a node
-abbrev pub MaskFrom : (P S : List ℕ) → (n limits i mask : ℕ) → Type 0
-MaskFrom P S n limits i m = (c : ℕ) → (x : Letter) → LetterAt P c n x → m ≡ word_mask (drop i (limit_words S limits)) x.through
+-- of these limits all but the first of them, in `rest`, are asked whether they count the letter at a node
+pub record Masked (P ws : List ℕ) (n : ℕ) (rest : List ℕ) (m : ℕ) : Type 0 where
+  pub asked : List ℕ
+  pub split : ws ≡ rest ++ asked
+  pub mask : (c : ℕ) → (x : Letter) → LetterAt P c n x → m ≡ word_mask asked x.through
 
-module _ (P S : List ℕ) (n limits : ℕ) (few : limits ≤ 8) (long : length S ≡ 24) where
-  limits-long : length (limit_words S limits) ≡ limits
-  limits-long = let d = length-drop 16 S in length-take-le limits (drop 16 S) (omega arith)
-
-  pub mask_start : MaskFrom P S n limits limits 0
+module _ (P ws : List ℕ) (n : ℕ) where
+  pub mask_start : Masked P ws n ws 0
   unfolding word_mask
-  mask_start c x s = sym (ap (λ (ws : List ℕ). word_mask ws x.through) (ap (λ (k : ℕ). drop k (limit_words S limits)) (sym limits-long) ∙ drop-length (limit_words S limits)))
+  mask_start = record { asked = []; split = sym (append-nil ws); mask = λ c x s. refl }
 
-  pub mask_low : (i m : ℕ) → MaskFrom P S n limits i m → SomeLetter P n → m < 256
-  mask_low i m a (c, x, s) =
-      let d = length-drop i (limit_words S limits) in
-      omega (arith, a c x s, mask-small (drop i (limit_words S limits)) x.through (omega (arith, limits-long)))
+  module _ (rest : List ℕ) (m : ℕ) (a : Masked P ws n rest m) where
+    pub mask_low : length ws ≤ 8 → SomeLetter P n → m < 256
+    mask_low few (c, x, s) =
+        let e : length ws ≡ length rest + length a.asked = ap length a.split ∙ length-append rest a.asked in
+        omega (arith, a.mask c x s, mask-small a.asked x.through (omega (arith, e)))
 
-  -- one limit more, before them
-  pub mask-more : (i j m : ℕ) → i ≡ j + 1 → i ≤ limits → MaskFrom P S n limits i m → (k : ℕ) → k ≡ part0 (get_or S (16 + j) 0) → (b : Bool)
-      → ((c : ℕ) → (x : Letter) → LetterAt P c n x → b ≡ member k x.through) → (f : ℕ) → f ≡ flag b → MaskFrom P S n limits j (2 * m + f)
-  unfolding word_mask
-  mask-more i j m e l a k q b h f g c x s =
-      let w : get_or (limit_words S limits) j 0 ≡ get_or S (16 + j) 0 = get_or-take limits (drop 16 S) j 0 (omega arith) ∙ get_or-drop 16 S j 0 in
-      let d : drop j (limit_words S limits) ≡ get_or S (16 + j) 0 ∷ drop i (limit_words S limits)
-      = drop-cons (limit_words S limits) j 0 (omega (arith, limits-long)) ∙ rw (w, e, add-one j) in
-      let y : f ≡ flag (member (part0 (get_or S (16 + j) 0)) x.through) = g ∙ ap flag (h c x s ∙ ap (λ (z : ℕ). member z x.through) q) in
-      omega (arith, a c x s) ∙ sym (ap (λ (ws : List ℕ). word_mask ws x.through) d)
+    -- one limit more, before them
+    pub mask-more : (fewer : List ℕ) (w : ℕ) → rest ≡ fewer ++ w ∷ [] → (k : ℕ) → k ≡ part0 w → (b : Bool)
+        → ((c : ℕ) → (x : Letter) → LetterAt P c n x → b ≡ member k x.through) → (f : ℕ) → f ≡ flag b → Masked P ws n fewer (2 * m + f)
+    unfolding word_mask
+    mask-more fewer w e k q b h f g = record {
+      asked = w ∷ a.asked;
+      split = a.split ∙ ap (λ (xs : List ℕ). xs ++ a.asked) e ∙ append_assoc fewer (w ∷ []) a.asked;
+      mask = λ c x s.
+          let y : f ≡ flag (member (part0 w) x.through) = g ∙ ap flag (h c x s ∙ ap (λ (z : ℕ). member z x.through) q) in
+          omega (arith, a.mask c x s, y);
+    }
 
-  -- all of them
-  pub mask-whole : (i m : ℕ) → i ≤ 0 → MaskFrom P S n limits i m → (c : ℕ) → (x : Letter) → LetterAt P c n x → m ≡ word_mask (limit_words S limits) x.through
-  mask-whole i m z a c x s = let e : i ≡ 0 = omega arith in a c x s ∙ ap (λ (k : ℕ). word_mask (drop k (limit_words S limits)) x.through) e
+    -- all of them
+    pub mask-whole : length rest ≡ 0 → (c : ℕ) → (x : Letter) → LetterAt P c n x → m ≡ word_mask ws x.through
+    mask-whole z c x s =
+        let e : ws ≡ a.asked = a.split ∙ ap (λ (xs : List ℕ). xs ++ a.asked) (nil_from_length rest z) in
+        a.mask c x s ∙ ap (λ (vs : List ℕ). word_mask vs x.through) (sym e)
 
 -- ---- an expression
 

@@ -14,8 +14,11 @@ use Rattle.lexer.specs.Bytes.{Entry}
 use Rattle.lexer.specs.Tokens.{Placed}
 use Rattle.meaning.specs.Reading.{Expect, statement, sign, closing, input_name, input_more, input_high, store_name, store_more, store_high, store_first, go, new_name, step}
 use Rattle.meaning.specs.Names.{Names, Meaning, with_name, new_input, new_store, declare}
+use Rattle.rules.specs.NamesFound.{name_number}
+use Rattle.rules.specs.declared.names.NameKind.{NameKind}
+use Rattle.rules.specs.declared.names.NameKind.TheVariants.{Wire, Store, Defined, Production}
 use Rattle.rules.specs.declared.declarations.Scope.{Scope}
-use Rattle.rules.specs.declared.declarations.Declared.{Declared}
+use Rattle.rules.specs.Scopes.{DeclaredTold}
 use Rattle.words.specs.Words.{quad, part0, part1, part2, part3}
 use Rattle.rules.specs.Cells.{at, Means, Cells, Declared as SomeNames}
 use Rattle.rules.specs.Reads.{read_from, fine, faulted, Behind, NumberRead}
@@ -32,6 +35,12 @@ use Rattle.rules.proofs.NewNames.{name-read, name-refused, name-on}
 use Rattle.rules.proofs.Widths.{signed, width_is}
 
 -- ---- a cell of two words
+
+pub name-small : (k : NameKind) → name_number k < 65536
+name-small Wire = omega arith
+name-small Store = omega arith
+name-small Defined = omega arith
+name-small Production = omega arith
 
 pub put-name : (P : List ℕ) (c kind last place size a b : ℕ) → c + 2 ≤ length P → kind < 65536 → last < 65536 → place < 65536 → size < 65536 → a < 65536 → b < 65536
     → NameWritten P c kind last place size a b (set (set P c (quad kind last place size)) (c + 1) (quad a b 0 0))
@@ -82,11 +91,11 @@ module _ {text P S : List ℕ} {pos c : ℕ} {scope : Scope} (r : Ready text P S
       (fits, omega (arith, q.small), omega (arith, q.small, k.low), omega (arith, r.short, m.some, m.inside), omega (arith, r.short, m.inside))
 
 -- a refusal, with words and values of the same length
-pub refuse : (text : List ℕ) (state : Expect) (P S : List ℕ) (pos c : ℕ) (scope : Scope) (r : Declared) → (r.fault ≡ 0 → ⊥)
+pub refuse : (text : List ℕ) (state : Expect) (P S : List ℕ) (pos c : ℕ) (scope : Scope) (r : DeclaredTold) → (r.fault ≡ 0 → ⊥)
     → Refuses text state P S pos c scope r.fault r.at → Declares text state P S pos c scope r P S
 refuse text state P S pos c scope r n f = record { words = refl; values = refl; outcome = faulted n f }
 
-abbrev pub answered : (f pos free : ℕ) → Scope → Declared
+abbrev pub answered : (f pos free : ℕ) → Scope → DeclaredTold
 answered f pos free scope = record { fault = f; at = pos; free = free; scope = scope }
 
 -- ---- wires

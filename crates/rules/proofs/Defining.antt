@@ -22,9 +22,9 @@ use Rattle.rules.proofs.Declaring.{cell-added, answered}
 -- ---- the name, and the sign behind it
 
 module _ (text P : List ℕ) (scope : Scope) (pos f place after : ℕ) (name : NameRead text P scope pos false false f place after) (k : ℕ) where
-  pub begin-no-name : (f ≡ 0 → ⊥) → (size : ℕ) → BeginRead text P scope pos k f place place size
+  pub begin-no-name : (f ≡ 0 → ⊥) → (from size : ℕ) → BeginRead text P scope pos k f place from size
   unfolding BeginRead
-  begin-no-name n size = faulted n (λ S c ns w x then b. name-refused text P scope pos false false f place after name c ns w.cells w.count x _ b n)
+  begin-no-name n from size = faulted n (λ S c ns w x then b. name-refused text P scope pos false false f place after name c ns w.cells w.count x _ b n)
 
   module _ (z : f ≡ 0) where
     behind-name : (S : List ℕ) (c : ℕ) (ns : Names) → Known text P S c scope ns → (x : Expect) (then : List ℕ → Expect) → Begins text pos k ns x then
@@ -44,6 +44,10 @@ module _ (text P : List ℕ) (scope : Scope) (pos f place after : ℕ) (name : N
           leads = λ S c ns w x then b. behind-name S c ns w x then b ∙ on ns _;
         })
     begin-read g a (faulted o on) = faulted o (λ S c ns w x then b. behind-name S c ns w x then b ∙ on ns _)
+
+    pub begin-unread : (g a : ℕ) → Behind text after g a (sign k) → (g ≡ 0 → ⊥) → (from size : ℕ) → BeginRead text P scope pos k g a from size
+    unfolding BeginRead Behind
+    begin-unread g a end n from size = faulted n (λ S c ns w x then b. behind-name S c ns w x then b ∙ ill end n ns _)
 
 -- ---- what is known of the names
 

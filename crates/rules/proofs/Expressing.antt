@@ -1,5 +1,5 @@
 -- Operands and whole expressions, which call each other on what a parenthesis holds. Assumes nothing.
-use mathlib.Core.Path.{◌≡◌, refl, sym, ◌∙◌, ap, subst}
+use mathlib.Core.Path.{◌≡◌, refl, sym, ◌∙◌, ap, ap₂, subst}
 use mathlib.Core.Bool.{Bool, true, false}
 use mathlib.Core.List.{List}
 use Prim.Native.Nat.{ℕ, ◌+◌, ◌-◌, ◌<◌, ◌≤◌}
@@ -8,14 +8,21 @@ use borrow.Author.Tests.{le-leb, lt-leb}
 use lib.ListN.{length}
 use Rattle.lexer.specs.Tokens.{token_at, rule_words}
 use Rattle.meaning.specs.Expression.{Exp}
-use Rattle.meaning.specs.Answers.{Answer}
+use Rattle.meaning.specs.Answers.{Answer, refused, byte}
 use Rattle.meaning.specs.Reading.{Open, Level, new_level, on_level, whole, operand, operand_more, step, is}
 use Rattle.meaning.specs.Names.{Names, Program}
-use Rattle.rules.specs.declared.tokens.Seen.{Seen}
+use Rattle.lexer.specs.declared.Token.{Token as Seen}
+use Rattle.lexer.specs.declared.Kind.TheVariants as kind
+use Rattle.lexer.specs.declared.Sign.TheVariants as signs
 use Rattle.rules.specs.declared.parts.Part.{Part}
+use Rattle.rules.specs.Expressions.{ParsedTold, told_parsed}
 use Rattle.rules.specs.declared.expression.Parsed.{Parsed}
-use Rattle.rules.specs.declared.expression.Depth.{Depth}
+use Rattle.std.specs.Prelude.{Result, Ok, Err}
+use Rattle.rules.specs.declared.tokens.Misread.{Misread}
 use Rattle.rules.specs.declared.expression.Turn.{Turn}
+use Rattle.rules.proofs.Misreads as refusals
+use Rattle.rules.specs.declared.expression.Depth.{Depth}
+use Rattle.rules.specs.Expressions.{TurnTold, told_turn}
 use Rattle.rules.specs.Seen.{seen, Sees}
 use Rattle.rules.specs.Cells.{Cells}
 use Rattle.rules.specs.Reads.{read_from, Unless, fine, faulted}
@@ -27,6 +34,7 @@ use Rattle.rules.proofs.Stepping.{well, ill, wrong, right, yes, since, past, on_
 use Rattle.rules.proofs.Put.{extends-refl, extends-then}
 use Rattle.rules.proofs.Kept.{cells-kept}
 use Rattle.rules.proofs.TaskLaws.{room-on, room_after, task-from}
+use Rattle.std.specs.Prelude as code
 use Rattle.rules.proofs.PartLaws.{present-none}
 use Rattle.rules.proofs.Operating.{level-kept}
 
@@ -39,7 +47,7 @@ module _ (text P : List ℕ) (pos c h levels : ℕ) (t : Seen) (sees : Sees text
   abbrev operands : Names → Open → Unit {0} → Answer Program
   operands ns o s = read_from text pos ns (operand o)
 
-  pub operand-simple : (r : Parsed) (Q : List ℕ) → Expresses text P t.place c h AnyOpen (by_simple text t) r Q × (r.fault ≡ 0 → t.place < r.at) → Operand text P pos c h levels r Q
+  pub operand-simple : (r : ParsedTold) (Q : List ℕ) → Expresses text P t.place c h AnyOpen (by_simple text t) r Q × (r.fault ≡ 0 → t.place < r.at) → Operand text P pos c h levels r Q
   operand-simple r Q (e, l) =
       let s = since text pos t sees g.room.inside in
       record {
@@ -55,7 +63,7 @@ module _ (text P : List ℕ) (pos c h levels : ℕ) (t : Seen) (sees : Sees text
       narrow (fine z a) = fine z (record { extends = a.extends; spent = a.spent; reads = λ ns k s b. let (e, p, on) = a.reads ns k s b in (e, p, λ o w. on o tt) })
       narrow (faulted n f) = faulted n (λ ns k s b o w. f ns k s b o tt)
 
-  module _ (paren : t.kind ≡ 6) where
+  module _ (paren : t.kind ≡ kind.Sign signs.LeftParen) where
     -- one level too many
     pub operand-deep : levels ≡ 0 → (p : Part) → Operand text P pos c h levels (record { fault = 7; at = t.place; free = c; part = p }) P
     unfolding step seen
@@ -65,7 +73,7 @@ module _ (text P : List ℕ) (pos c h levels : ℕ) (t : Seen) (sees : Sees text
             long = refl;
             outcome = faulted (λ y. omega arith) (λ ns k s b o w.
                 on_step text pos t sees ns (operand o) _
-                (yes _ _ _ (is-on text pos t sees 6 (omega arith) paren) ∙ wrong _ _ _ _ (le-leb 32 (length o.outer) (omega (arith, w.deep)))));
+                (yes _ _ _ (is-on text pos t sees signs.LeftParen paren) ∙ wrong _ _ _ _ (le-leb 32 (length o.outer) (omega (arith, w.deep)))));
           };
           further = λ y. absurd (omega arith);
         }
@@ -79,15 +87,15 @@ module _ (text P : List ℕ) (pos c h levels : ℕ) (t : Seen) (sees : Sees text
       unfolding step
       opened ns o w =
           on_step text pos t sees ns (operand o) _
-          (yes _ _ _ (is-on text pos t sees 6 (omega arith) paren) ∙ right _ _ _ _ (lt-leb 32 (length o.outer) (omega (arith, w.deep))))
+          (yes _ _ _ (is-on text pos t sees signs.LeftParen paren) ∙ right _ _ _ _ (lt-leb 32 (length o.outer) (omega (arith, w.deep))))
 
       deeper : (o : Open) → Within levels o → Outer (levels - 1) (inner o)
       deeper o w = record { level = refl; deep = omega (arith, w.deep) }
 
       pub inner-given : Named text P t.after c h
-      inner-given = let p = past text pos t sees (omega arith) in named-on g (omega arith) p.1
+      inner-given = let p = past text pos t sees paren tt in named-on g (omega arith) p.1
 
-      module _ (e : Parsed) (Q : List ℕ) (w : Whole text P t.after c h (levels - 1) e Q) where
+      module _ (e : ParsedTold) (Q : List ℕ) (w : Whole text P t.after c h (levels - 1) e Q) where
         pub operand-fails : (e.fault ≡ 0 → ⊥) → Operand text P pos c h levels e Q
         operand-fails n =
             record {
@@ -95,13 +103,13 @@ module _ (text P : List ℕ) (pos c h levels : ℕ) (t : Seen) (sees : Sees text
               further = λ z. absurd (n z);
             }
 
-        pub operand-closed : e.fault ≡ 0 → (r : Parsed) → ClosedBy text e r → Operand text P pos c h levels r Q
+        pub operand-closed : e.fault ≡ 0 → (r : ParsedTold) → ClosedBy text e r → Operand text P pos c h levels r Q
         operand-closed z r d = by (d (w.closes z))
           where
             by : Unless r.fault (ClosesBy text e r) (Unclosed text e.at r.fault r.at) → Operand text P pos c h levels r Q
             by (fine y b) =
                 let a = well w.task.outcome z in
-                let p = past text pos t sees (omega arith) in
+                let p = past text pos t sees paren tt in
                 let u = a.spent in
                 let l = b.past in
                 record {
@@ -135,6 +143,19 @@ module _ (text P : List ℕ) (pos c h levels : ℕ) (t : Seen) (sees : Sees text
 
 -- ---- a whole expression
 
+-- a refusal is the same whatever stands for what it has not
+pub whole-again : (text P : List ℕ) (pos c h levels : ℕ) (r w : ParsedTold) (Q : List ℕ) → (r.fault ≡ 0 → ⊥) → Whole text P pos c h levels r Q → r.fault ≡ w.fault → r.at ≡ w.at
+    → Whole text P pos c h levels w Q
+whole-again text P pos c h levels r w Q n a e p =
+    record {
+      task = record {
+        long = a.task.long;
+        outcome = faulted (λ z. n (e ∙ z)) (λ ns k s b o g. ill a.task.outcome n ns k s b o g ∙ ap₂ (λ (i j : ℕ). refused i (byte j)) e p);
+      };
+      closes = λ z. absurd (n (e ∙ z));
+      further = λ z. absurd (n (e ∙ z));
+    }
+
 -- operands and operators that are read so far
 pub record Loop (text P : List ℕ) (start c h levels : ℕ) (Q : List ℕ) (l : Depth) (pos used : ℕ) : Type 0 where
   pub extends : Extends P c Q used
@@ -143,13 +164,13 @@ pub record Loop (text P : List ℕ) (start c h levels : ℕ) (Q : List ℕ) (l :
       → (L : Level) × LevelIs Q used l L × ((o : Open) → Outer levels o → read_from text start ns (operand o) ≡ read_from text pos ns (operand (on_level o L)))
 
 module _ (text P : List ℕ) (start c h levels : ℕ) (g : Named text P start c h) where
-  pub loop-start : (l : Depth) → (l.alts.node ≡ 0) × (l.seqs.node ≡ 0) × (l.left.node ≡ 0) → Loop text P start c h levels P l start c
+  pub loop-start : (l : Depth) → (l.alts ≡ code.None) × (l.seqs ≡ code.None) × (l.left ≡ code.None) → Loop text P start c h levels P l start c
   unfolding OptionIs
   loop-start l (a, b, d) =
       record {
         extends = extends-refl P c;
         spent = let x = present-none l.alts a in let y = present-none l.seqs b in let z = present-none l.left d in record { since = omega arith; inside = g.room.inside; few = omega arith };
-        reads = λ ns k. (new_level, record { alts = a; seqs = b; left = d }, λ o w. ap (λ (v : Level). read_from text start ns (operand (on_level o v))) w.level);
+        reads = λ ns k. (new_level, record { alts = rw a tt; seqs = rw b tt; left = rw d tt }, λ o w. ap (λ (v : Level). read_from text start ns (operand (on_level o v))) w.level);
       }
 
   module _ (Q : List ℕ) (l : Depth) (pos used : ℕ) (i : Loop text P start c h levels Q l pos used) where
@@ -164,7 +185,7 @@ module _ (text P : List ℕ) (start c h levels : ℕ) (g : Named text P start c 
           names = (ns, cells-kept P c Q used x text h ns.declared k);
         }
 
-    module _ (p : Parsed) (R : List ℕ) (a : Operand text Q pos used h levels p R) where
+    module _ (p : ParsedTold) (R : List ℕ) (a : Operand text Q pos used h levels p R) where
       pub whole-fails : (p.fault ≡ 0 → ⊥) → Whole text P start c h levels p R
       whole-fails n =
           record {
@@ -230,7 +251,7 @@ module _ (text P : List ℕ) (start c h levels : ℕ) (g : Named text P start c 
                 part = (e, q);
               }
 
-          module _ (r : Turn) (U : List ℕ) (v : Turned text T s.at s.free s.part l r U) where
+          module _ (r : TurnTold) (U : List ℕ) (v : Turned text T s.at s.free s.part l r U) where
             pub loop-long : length U ≡ length P
             loop-long = v.long ∙ all.long
 
@@ -294,3 +315,15 @@ module _ (text P : List ℕ) (start c h levels : ℕ) (g : Named text P start c 
                       closes = λ y. absurd (f y);
                       further = λ y. absurd (f y);
                     }
+
+-- a turn by the value that was matched
+pub turned-at : (text P : List ℕ) (pos c d : ℕ) (p : Part) (l m : Depth) (u v : Turn) (Q : List ℕ) → u ≡ v → Turned text P pos c p l (told_turn d m (Ok u)) Q
+    → Turned text P pos c p l (told_turn d m (Ok v)) Q
+turned-at text P pos c d p l m u v Q e a = subst (λ (w : Turn). Turned text P pos c p l (told_turn d m (Ok w)) Q) e a
+
+-- a refusal is the same whatever stands for what it has not
+pub operand-from : (text P : List ℕ) (pos c h levels d e : ℕ) (r : Result Parsed Misread) (Q : List ℕ) → Operand text P pos c h levels (told_parsed d r) Q
+    → Operand text P pos c h levels (told_parsed e r) Q
+operand-from text P pos c h levels d e (Ok p) Q a = a
+operand-from text P pos c h levels d e (Err m) Q a =
+    record { task = record { long = a.task.long; outcome = faulted (refusals.some m.why) (ill a.task.outcome (refusals.some m.why)) }; further = λ z. absurd (refusals.some m.why z) }

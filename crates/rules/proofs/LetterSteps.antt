@@ -16,16 +16,22 @@ use Rattle.meaning.proofs.ListLaws.{no-∈}
 use Rattle.meaning.specs.Answers.{Answer, refused, byte}
 use Rattle.meaning.specs.Reading.{by_kind, known, no_exp, fault, literal_name, negated, operand, Open, in_letter, Step, go, step, is, choose, behind_literal, literal_more, write_store, operand_more}
 use Rattle.meaning.specs.Names.{Meaning, an_input, a_store, a_define, a_production, Names, Program}
-use Rattle.rules.specs.declared.tokens.Seen.{Seen}
+use Rattle.lexer.specs.declared.Token.{Token as Seen}
+use Rattle.lexer.specs.declared.Kind.TheVariants as kind
+use Rattle.lexer.specs.declared.Sign.TheVariants as signs
 use Rattle.rules.specs.declared.literals.Condition.{Condition}
+use Rattle.rules.specs.Expressions.{ParsedTold, told_parsed}
 use Rattle.rules.specs.declared.expression.Parsed.{Parsed}
+use Rattle.rules.specs.declared.tokens.Misread.{Misread}
+use Rattle.std.specs.Prelude.{Result, Ok, Err}
+use Rattle.rules.proofs.Misreads as refusals
 use Rattle.rules.specs.declared.parts.Part.{Part}
-use Rattle.rules.specs.Seen.{seen, Sees}
+use Rattle.rules.specs.Seen.{fault_of, seen, Sees}
 use Rattle.rules.specs.Cells.{at, Links, tests_on, Means, ProductionAt, Cells, Declared, Found, Finds}
 use Rattle.words.specs.Words.{part0}
 use Rattle.rules.specs.Picks.{kind_number, bytes_of}
 use Rattle.rules.specs.Reads.{read_from, Unless, fine, faulted}
-use Rattle.rules.specs.declared.literals.Literals.{Literals}
+use Rattle.rules.specs.Conditions.{LiteralsTold}
 use Rattle.rules.specs.Conditions.{Extends, Room, ConditionIs, From, Given, Added, Refuses, Adds, AllAdded, behind, by_name}
 use Rattle.rules.specs.Parts.{PartIs, LetterMade}
 use Rattle.rules.specs.Tasks.{Fails, AllWritten}
@@ -43,6 +49,12 @@ condition-kept P c Q d x q ls k = record { masks = k.masks; tests = tests-kept P
 pub two-tests : (P : List ℕ) (c : ℕ) (q : Condition) (ls : List Literal) → ConditionIs P c q ls → q.tests ≤ 2 → store_tests ls ≤ 2
 two-tests P c q ls k l = omega (arith, k.tests.count)
 
+-- a refusal is the same whatever stands for what it has not
+pub ends-from : (text P : List ℕ) (pos c h : ℕ) (q : Condition) (d e : ℕ) (r : Result Parsed Misread) (Q : List ℕ) → EndsLetter text P pos c h q (told_parsed d r) Q
+    → EndsLetter text P pos c h q (told_parsed e r) Q
+ends-from text P pos c h q d e (Ok p) Q a = a
+ends-from text P pos c h q d e (Err m) Q a = record { long = a.long; outcome = faulted (refusals.some m.why) (ill a.outcome (refusals.some m.why)) }
+
 module _ (text P : List ℕ) (pos c h : ℕ) (q : Condition) (t : Seen) (sees : Sees text pos t) (g : LetterGiven text P pos c h q) where
   not-and : is 4 (seen text t) ≡ false
   not-and = ap (is 4) sees.token ∙ g.last
@@ -51,7 +63,7 @@ module _ (text P : List ℕ) (pos c h : ℕ) (q : Condition) (t : Seen) (sees : 
   pub own_room : (c + 3 ≤ length P) × (length P ≤ 65535) × (1 ≤ c) × (q.link < c) × (0 < c) × (q.held < c)
   own_room = let r = g.room in let (ls, k) = g.condition in (omega (arith, r.fits, r.inside), r.small, g.some, k.tests.low, g.some, k.helds.low)
 
-  pub letter-bare : (t.kind ≡ 10 → ⊥) → (Q : List ℕ) (r : Parsed) → r.fault ≡ 0 → r.at ≡ pos → LetterMade P c q 0 Q r.free r.part → EndsLetter text P pos c h q r Q
+  pub letter-bare : (t.kind ≡ kind.Sign signs.LeftBrace → ⊥) → (Q : List ℕ) (r : ParsedTold) → r.fault ≡ 0 → r.at ≡ pos → LetterMade P c q 0 Q r.free r.part → EndsLetter text P pos c h q r Q
   unfolding step behind_literal
   letter-bare n Q r z e l =
       record {
@@ -63,25 +75,25 @@ module _ (text P : List ℕ) (pos c h : ℕ) (q : Condition) (t : Seen) (sees : 
             a_letter ls [],
             l.part ls [] 0 d (two-tests P c q ls d g.few) (none_yet P c g.some),
             λ o.
-                on_step text pos t sees ns (literal_more (in_letter o) ls) _ (no _ _ _ not-and ∙ no _ _ _ (is-off text pos t sees 10 (omega arith) n))
+                on_step text pos t sees ns (literal_more (in_letter o) ls) _ (no _ _ _ not-and ∙ no _ _ _ (is-off text pos t sees signs.LeftBrace n))
                 ∙ sym (on_step text pos t sees ns (operand_more o (a_letter ls []) false) _ refl)
                 ∙ ap (λ (k : ℕ). read_from text k ns (operand_more o (a_letter ls []) false)) (sym e),
           );
         });
       }
 
-  module _ (b : t.kind ≡ 10) where
+  module _ (b : t.kind ≡ kind.Sign signs.LeftBrace) where
     -- writes begin
     brace : (ns : Names) (o : Open) (ls : List Literal) → behind_literals text pos ns o ls ≡ read_from text t.after ns (write_store o ls [])
     unfolding step behind_literal
-    brace ns o ls = on_step text pos t sees ns (literal_more (in_letter o) ls) _ (no _ _ _ not-and ∙ yes _ _ _ (is-on text pos t sees 10 (omega arith) b))
+    brace ns o ls = on_step text pos t sees ns (literal_more (in_letter o) ls) _ (no _ _ _ not-and ∙ yes _ _ _ (is-on text pos t sees signs.LeftBrace b))
 
     pub writes-given : Room text P t.after c × ((ns : Names) × Cells text P c h ns.declared)
-    writes-given = let r = g.room in let p = past text pos t sees (omega arith) in (record { some = g.some; fits = omega (arith, r.fits); inside = p.1; small = r.small }, g.names)
+    writes-given = let r = g.room in let p = past text pos t sees b tt in (record { some = g.some; fits = omega (arith, r.fits); inside = p.1; small = r.small }, g.names)
 
     module _ (f next free m j : ℕ) (Q : List ℕ) (w : AllWritten text P t.after c h f next free m j Q) where
-      pub letter-fails : (f ≡ 0 → ⊥) → (p : Part) → EndsLetter text P pos c h q (record { fault = f; at = next; free = free; part = p }) Q
-      letter-fails n p =
+      pub letter-fails : (f ≡ 0 → ⊥) → (d : ℕ) → (p : Part) → EndsLetter text P pos c h q (record { fault = f; at = next; free = d; part = p }) Q
+      letter-fails n d p =
           record { long = w.long; outcome = faulted n (λ ns k ls d o u. brace ns o ls ∙ ill w.outcome n ns k tt tt (record { within = o; literals = ls }) tt) }
 
       pub written-room : f ≡ 0 → (free + 3 ≤ length Q) × (length Q ≤ 65535) × (1 ≤ free) × (q.link < free) × (j < free) × (q.held < free)
@@ -93,14 +105,14 @@ module _ (text P : List ℕ) (pos c h : ℕ) (q : Condition) (t : Seen) (sees : 
           let (ls, k) = g.condition in
           let (ns, y) = g.names in
           let (ws, v, on) = a.reads ns y tt tt in
-          let p = past text pos t sees (omega arith) in
+          let p = past text pos t sees b tt in
           (omega (arith, r.fits, r.inside, s.few, s.inside, x.long), omega (arith, r.small, x.long), omega (arith, g.some, x.more), omega (arith, k.tests.low, x.more), v.low, omega (arith, k.helds.low, x.more))
 
-      pub letter-written : f ≡ 0 → (R : List ℕ) (r : Parsed) → r.fault ≡ 0 → r.at ≡ next → LetterMade Q free q j R r.free r.part → EndsLetter text P pos c h q r R
+      pub letter-written : f ≡ 0 → (R : List ℕ) (r : ParsedTold) → r.fault ≡ 0 → r.at ≡ next → LetterMade Q free q j R r.free r.part → EndsLetter text P pos c h q r R
       letter-written z R r y e l =
           let a = well w.outcome z in
           let s = a.spent in
-          let p = past text pos t sees (omega arith) in
+          let p = past text pos t sees b tt in
           record {
             long = l.extends.long ∙ a.extends.long;
             outcome = fine y (record {
@@ -125,9 +137,9 @@ module _ (text P : List ℕ) (pos c h : ℕ) (q : Condition) (g : LetterBegun te
   pub more_given : Given text P pos c h q
   more_given = let r = g.room in record { room = record { some = g.some; fits = omega (arith, r.fits); inside = r.inside; small = r.small }; names = g.names; condition = g.condition }
 
-  module _ (m : Literals) (Q : List ℕ) (a : AllAdded text mores P pos c h q 2 m Q) where
-    pub more-fails : (m.fault ≡ 0 → ⊥) → (p : Part) → EndsLetter text P pos c h q (record { fault = m.fault; at = m.at; free = m.free; part = p }) Q
-    more-fails n p = record { long = a.adds.long; outcome = faulted n (λ ns k ls d o u. ill a.adds.outcome n ns k ls d (in_letter o) refl) }
+  module _ (m : LiteralsTold) (Q : List ℕ) (a : AllAdded text mores P pos c h q 2 m Q) where
+    pub more-fails : (m.fault ≡ 0 → ⊥) → (d : ℕ) → (p : Part) → EndsLetter text P pos c h q (record { fault = m.fault; at = m.at; free = d; part = p }) Q
+    more-fails n d p = record { long = a.adds.long; outcome = faulted n (λ ns k ls d o u. ill a.adds.outcome n ns k ls d (in_letter o) refl) }
 
     pub end-given : m.fault ≡ 0 → LetterGiven text Q m.at m.free h m.condition
     end-given z =
@@ -147,7 +159,7 @@ module _ (text P : List ℕ) (pos c h : ℕ) (q : Condition) (g : LetterBegun te
           last = a.last z;
         }
 
-    pub more-ended : m.fault ≡ 0 → (r : Parsed) (R : List ℕ) → EndsLetter text Q m.at m.free h m.condition r R → EndsLetter text P pos c h q r R
+    pub more-ended : m.fault ≡ 0 → (r : ParsedTold) (R : List ℕ) → EndsLetter text Q m.at m.free h m.condition r R → EndsLetter text P pos c h q r R
     more-ended z r R e = record { long = e.long ∙ a.adds.long; outcome = by e.outcome }
       where
         by : Unless r.fault (LetterEnded text Q m.at m.free h m.condition r R) (Fails text Q m.free h (List Literal) Open (ConditionIs Q m.free m.condition) AnyOpen (behind_literals text m.at) r.fault r.at)
@@ -204,7 +216,7 @@ never cell kind l k e =
     let q : (not false && true) ≡ false = ap₂ (λ x y. not x && y) (sym a) (sym b) ∙ e in
     let z : ◌≡◌ {A = ℕ} 0 1 = cc in omega arith
 
-module _ (text P : List ℕ) (pos c h : ℕ) (t : Seen) (sees : Sees text pos t) (g : Named text P t.place c h) (not-paren : t.kind ≡ 6 → ⊥) where
+module _ (text P : List ℕ) (pos c h : ℕ) (t : Seen) (sees : Sees text pos t) (g : Named text P t.place c h) (not-paren : t.kind ≡ kind.Sign signs.LeftParen → ⊥) where
   abbrev simples : Names → Open → Unit {0} → Answer Program
   simples = by_simple text t
 
@@ -212,7 +224,7 @@ module _ (text P : List ℕ) (pos c h : ℕ) (t : Seen) (sees : Sees text pos t)
   on-simple : (ns : Names) (o : Open) → step ns (operand o) (seen text t)
       ≡ choose (is 5 (seen text t)) (go ns (negated (in_letter o) [])) (literal_name ns (in_letter o) [] (seen text t) (λ e. go ns (operand_more o e false)))
   unfolding step
-  on-simple ns o = no _ _ _ (is-off text pos t sees 6 (omega arith) not-paren)
+  on-simple ns o = no _ _ _ (is-off text pos t sees signs.LeftParen not-paren)
 
   pub named-declared : Declared text P h
   named-declared = let r = g.room in let (ns, k) = g.names in (c, ns.declared, omega (arith, r.fits, r.inside), k)
@@ -223,7 +235,7 @@ module _ (text P : List ℕ) (pos c h : ℕ) (t : Seen) (sees : Sees text pos t)
     first-given next l m = let r = g.room in record { room = room-on r l m; names = g.names; condition = ([], none P c r.some) }
 
     -- the first literal is read, from a token behind which three words a byte are left
-    module _ (from : From) (first at : ℕ) (low : t.place ≤ at) (paid : t.place < first) (l : Literals) (Q : List ℕ) (a : Adds text from P at c h q 2 l Q)
+    module _ (from : From) (first at : ℕ) (low : t.place ≤ at) (paid : t.place < first) (l : LiteralsTold) (Q : List ℕ) (a : Adds text from P at c h q 2 l Q)
         (frugal : l.fault ≡ 0 → l.free + 3 * first ≤ c + 3 * l.at)
         (same : (ns : Names) → Cells text P c h ns.declared → (o : Open) → simples ns o tt ≡ from ns (in_letter o) []) where
       pub begun : l.fault ≡ 0 → LetterBegun text Q l.at l.free h l.condition
@@ -242,7 +254,7 @@ module _ (text P : List ℕ) (pos c h : ℕ) (t : Seen) (sees : Sees text pos t)
             few = d.few (omega arith);
           }
 
-      module _ (r : Parsed) (R : List ℕ) (long : length R ≡ length Q) (refusal : (l.fault ≡ 0 → ⊥) → (r.fault ≡ l.fault) × (r.at ≡ l.at))
+      module _ (r : ParsedTold) (R : List ℕ) (long : length R ≡ length Q) (refusal : (l.fault ≡ 0 → ⊥) → (r.fault ≡ l.fault) × (r.at ≡ l.at))
           (ends : l.fault ≡ 0 → EndsLetter text Q l.at l.free h l.condition r R) where
         pub letter-read : Expresses text P t.place c h AnyOpen simples r R × (r.fault ≡ 0 → t.place < r.at)
         letter-read = by a.outcome
@@ -291,19 +303,19 @@ module _ (text P : List ℕ) (pos c h : ℕ) (t : Seen) (sees : Sees text pos t)
             by (faulted n f) = failing n f
 
   -- behind `!`
-  pub not_same : t.kind ≡ 5 → (ns : Names) → Cells text P c h ns.declared → (o : Open) → simples ns o tt ≡ read_from text t.after ns (negated (in_letter o) [])
-  not_same b ns k o = ap (behind text t) (on-simple ns o ∙ yes _ _ _ (is-on text pos t sees 5 (omega arith) b))
+  pub not_same : t.kind ≡ kind.Sign signs.Bang → (ns : Names) → Cells text P c h ns.declared → (o : Open) → simples ns o tt ≡ read_from text t.after ns (negated (in_letter o) [])
+  not_same b ns k o = ap (behind text t) (on-simple ns o ∙ yes _ _ _ (is-on text pos t sees signs.Bang b))
 
-  module _ (not-bang : t.kind ≡ 5 → ⊥) where
+  module _ (not-bang : t.kind ≡ kind.Sign signs.Bang → ⊥) where
     on-name : (ns : Names) (o : Open) → step ns (operand o) (seen text t) ≡ literal_name ns (in_letter o) [] (seen text t) (λ e. go ns (operand_more o e false))
-    on-name ns o = on-simple ns o ∙ no _ _ _ (is-off text pos t sees 5 (omega arith) not-bang)
+    on-name ns o = on-simple ns o ∙ no _ _ _ (is-off text pos t sees signs.Bang not-bang)
 
-    pub simple-fails : (t.kind ≡ 18 → ⊥) → (p : Part) → Expresses text P t.place c h AnyOpen simples (record { fault = t.fault; at = t.place; free = c; part = p }) P × (t.fault ≡ 0 → t.place < t.place)
+    pub simple-fails : (t.kind ≡ kind.Name → ⊥) → (p : Part) → Expresses text P t.place c h AnyOpen simples (record { fault = (fault_of t.kind); at = t.place; free = c; part = p }) P × ((fault_of t.kind) ≡ 0 → t.place < t.place)
     unfolding literal_name known
     simple-fails n p =
         (record { long = refl; outcome = faulted (faults text pos t sees) (λ ns k s b o u. ap (behind text t) (on-name ns o ∙ no_name text pos t sees n _)) }, λ z. absurd (faults text pos t sees z))
 
-    module _ (name : t.kind ≡ 18) (cell : ℕ) (f : Finds text P h (bytes_of text t) cell) where
+    module _ (name : t.kind ≡ kind.Name) (cell : ℕ) (f : Finds text P h (bytes_of text t) cell) where
       -- what the name means
       abbrev Meant : Names → Type 0
       Meant ns = (m : Meaning) × (lookup (bytes_of text t) ns.declared ≡ some m) × Means P c cell m

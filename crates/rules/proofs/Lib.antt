@@ -1,6 +1,6 @@
 -- What follows from the definitions.
--- a token's kind as a number, and that a sign's number is below 18
-pub mod TokenKinds
+-- the numbers of refusals in answers
+pub mod Misreads
 -- looking for a name from cell to cell
 pub mod Lookup
 -- reading on from a position, by the token that stands there

@@ -18,8 +18,9 @@ use Rattle.meaning.specs.Reading.{Expect, statement, sign, keyword, closing, lim
 use Rattle.meaning.specs.Names.{Limit, Names, new_limit, declare}
 use Rattle.words.specs.Words.{quad, part0, part2}
 use Rattle.rules.specs.declared.declarations.Scope.{Scope}
-use Rattle.rules.specs.declared.tokens.Seen.{Seen}
-use Rattle.rules.specs.Seen.{seen, Sees}
+use Rattle.lexer.specs.declared.Token.{Token as Seen}
+use Rattle.lexer.specs.declared.Kind.TheVariants as kind
+use Rattle.rules.specs.Seen.{fault_of, seen, Sees}
 use Rattle.rules.specs.Cells.{at, Node, LetterNode, CameNode, Denotes, Cells, Declared as SomeNames}
 use Rattle.rules.specs.Picks.{Picks}
 use Rattle.rules.specs.Reads.{read_from, fine, faulted, Behind}
@@ -88,7 +89,7 @@ module _ (text P : List ℕ) (h pos : ℕ) (t : Seen) (sees : Sees text pos t) (
       single-read d m n e =
           let (c, x, l, st, q) = declares_production text P h pos t sees f cell pick z d in
           fine refl (
-            past text pos t sees (omega arith),
+            past text pos t sees q tt,
             λ c ns k. on_step text pos t sees ns limit_name _ (leads c ns k (some n) (λ p w. w.came (sym of ∙ m) ∙ ap some (sym e))),
           )
 
@@ -104,40 +105,40 @@ module _ (text : List ℕ) (pos f a : ℕ) (w : token.Word) (word : Behind text 
     unfolding Behind
     on_word ns x = (well word z).1 ns x
 
-    pub ticks-no-number : (t.kind ≡ 19 → ⊥) → (n : ℕ) → TicksRead text pos w least most t.fault t.place n
+    pub ticks-no-number : ((v : ℕ) → t.kind ≡ kind.Number v → ⊥) → (n : ℕ) → TicksRead text pos w least most (fault_of t.kind) t.place n
     unfolding TicksRead seen
     ticks-no-number q n =
         faulted (faults text a t sees) (λ ns x then r. on_word ns x ∙ on_step text a t sees ns x _ (r.numeric _ ∙ (no_number text a t sees q _).0))
 
-    module _ (q : t.kind ≡ 19) where
+    module _ (v : ℕ) (q : t.kind ≡ kind.Number v) where
       on-ticks : (ns : Names) (x : Expect) (then : ℕ → Expect) (r : Between ns x least most then)
-          → step ns x (seen text t) ≡ unless (r.wrong t.value) stretch (seen text t) (go ns (then t.value))
+          → step ns x (seen text t) ≡ unless (r.wrong v) stretch (seen text t) (go ns (then v))
       unfolding on_number if_number
       on-ticks ns x then r =
           r.numeric _ ∙ ap (λ (u : Placed). on_number u (λ n. unless (r.wrong n) stretch (seen text t) (go ns (then n)))) (number_is text a t sees q)
 
-      ticks-wrong : ((ns : Names) (x : Expect) (then : ℕ → Expect) (r : Between ns x least most then) → r.wrong t.value ≡ true) → (n : ℕ) → TicksRead text pos w least most 21 t.place n
+      ticks-wrong : ((ns : Names) (x : Expect) (then : ℕ → Expect) (r : Between ns x least most then) → r.wrong v ≡ true) → (n : ℕ) → TicksRead text pos w least most 21 t.place n
       unfolding TicksRead seen
       ticks-wrong e n =
           faulted (λ y. omega arith) (λ ns x then r.
           on_word ns x ∙ on_step text a t sees ns x _ (on-ticks ns x then r ∙ wrong _ _ _ _ (e ns x then r)))
 
-      pub ticks-small : t.value < least → (n : ℕ) → TicksRead text pos w least most 21 t.place n
-      ticks-small l = ticks-wrong (λ ns x then r. r.small t.value l)
+      pub ticks-small : v < least → (n : ℕ) → TicksRead text pos w least most 21 t.place n
+      ticks-small l = ticks-wrong (λ ns x then r. r.small v l)
 
-      pub ticks-large : most < t.value → (n : ℕ) → TicksRead text pos w least most 21 t.place n
-      ticks-large l = ticks-wrong (λ ns x then r. r.large t.value l)
+      pub ticks-large : most < v → (n : ℕ) → TicksRead text pos w least most 21 t.place n
+      ticks-large l = ticks-wrong (λ ns x then r. r.large v l)
 
-      pub ticks-read : least ≤ t.value → t.value ≤ most → TicksRead text pos w least most 0 t.after t.value
+      pub ticks-read : least ≤ v → v ≤ most → TicksRead text pos w least most 0 t.after v
       unfolding TicksRead
       ticks-read l m =
           let b = behind-past text pos f a (keyword w) word z in
-          let p = past text a t sees (omega arith) in
+          let p = past text a t sees q tt in
           fine refl (record {
             past = (omega arith, p.1);
             low = l;
             high = m;
-            leads = λ ns x then r. on_word ns x ∙ on_step text a t sees ns x _ (on-ticks ns x then r ∙ right _ _ _ _ (r.inside t.value l m));
+            leads = λ ns x then r. on_word ns x ∙ on_step text a t sees ns x _ (on-ticks ns x then r ∙ right _ _ _ _ (r.inside v l m));
           })
 
 -- ---- the whole limit
@@ -262,3 +263,8 @@ module _ (text P S : List ℕ) (pos c : ℕ) (scope : Scope) (r : Ready text P S
           reads = λ ns k. (_, limits-known text P S c scope ns m.limit word m.is free r.values k, m.reads c ns k.cells);
         });
       }
+
+-- a refusal is the same whatever stands for the word
+pub limit-again : (text P : List ℕ) (h pos f next word other : ℕ) → (f ≡ 0 → ⊥) → LimitRead text P h pos f next word → LimitRead text P h pos f next other
+unfolding LimitRead
+limit-again text P h pos f next word other n r = faulted n (ill r n)

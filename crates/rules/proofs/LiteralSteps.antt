@@ -5,7 +5,7 @@ use mathlib.Core.Option.{Option, none, some}
 use mathlib.Core.List.{List, [], ◌∷◌, ◌++◌}
 use Prim.Native.Nat.{ℕ, ◌+◌, ◌-◌, ◌*◌, ◌^◌, ◌<◌, ◌≤◌, min}
 use native.Mathlib.Omega.{arith}
-use borrow.Author.Tests.{le-leb, lt-leb, le-ltb, lt-ltb, ltb-true, ltb-false, eqb-true, eqb-false, ne_eqb, eq-eqb}
+use borrow.Author.Tests.{le-leb, lt-leb, le-ltb, lt-ltb, ltb-true, ltb-false, ne_eqb, eq-eqb}
 use lib.Dec.{leb, ltb, eqb}
 use lib.Bits.{bit_or}
 use lib.Pow.{pow_pos}
@@ -21,16 +21,19 @@ use Rattle.meaning.specs.Reading.{Context, in_define, in_letter, sign, bit_index
 use Rattle.meaning.specs.Names.{Names, Meaning, an_input, a_store, a_define, a_production}
 use Rattle.meaning.proofs.Within.{count-append}
 use Rattle.rules.specs.declared.literals.Condition.{Condition}
-use Rattle.rules.specs.declared.literals.Literals.{Literals}
-use Rattle.rules.specs.declared.tokens.Seen.{Seen}
-use Rattle.rules.specs.Seen.{seen, Sees}
+use Rattle.rules.specs.Conditions.{LiteralsTold}
+use Rattle.lexer.specs.declared.Token.{Token as Seen}
+use Rattle.lexer.specs.declared.Kind.TheVariants as kind
+use Rattle.lexer.specs.declared.Sign.TheVariants as signs
+use Rattle.lexer.specs.declared.Word.TheVariants as words
+use Rattle.rules.specs.Seen.{fault_of, is_name, seen, Sees}
 use Rattle.words.specs.Words.{part0, part1, part2, part3}
 use Rattle.rules.specs.Cells
 use Rattle.rules.specs.Cells.{at, link, Links, tests_on, held_at, HeldIs, Means, InputAt, StoreAt, DefineAt, Cells, Declared, Finds}
 use Rattle.rules.specs.Picks.{kind_number, Only, spelt, bytes_of, Picks}
 use Rattle.rules.specs.Reads.{read_from, Unless, fine, faulted, Past, Behind, NumberRead}
 use Rattle.rules.specs.Conditions.{Extends, Spent, ConditionIs, most_of, From, Given, Added, Refuses, Adds, Joined, Linked, LinkedBoth, HeldBoth, TestsAre, behind, by_store, by_define, by_test, by_name}
-use Rattle.rules.proofs.Stepping.{well, ill, wrong, right, yes, no, faults, since, past, inside-text, past-place, on_step, is-on, is-off, not-here, name-is, number_is, no_number, no_name, is-past, spelled}
+use Rattle.rules.proofs.Stepping.{well, ill, wrong, right, yes, no, faults, since, past, inside-text, past-place, on_step, is-on, is-off, not-here, name-is, number_is, no_number, no_name, spelled, word-on, word-off, word-no-number, name-true, name-false}
 use Rattle.rules.proofs.OnNumber.{Numeric, number_past, number-most, number-refused, number-on}
 use Rattle.rules.proofs.Put.{extends-refl, extends-then}
 use Rattle.rules.proofs.Kept.{cells-kept}
@@ -38,13 +41,22 @@ use Rattle.rules.proofs.PartLaws.{is-flag}
 use Rattle.rules.proofs.Tested.{wire-added, retested, reheld, store-test, wire-test, test-added, define-added, past-added}
 use Rattle.rules.proofs.Picking.{missing, present, known-name, cell-kind}
 
-abbrev pub answered : (f pos free : ℕ) → Condition → Literals
+abbrev pub answered : (f pos free : ℕ) → Condition → LiteralsTold
 answered f pos free q = record { fault = f; at = pos; free = free; condition = q }
 
 -- a refusal, with words of the same length
-pub refuse : (text : List ℕ) (from : From) (P : List ℕ) (pos c h : ℕ) (q : Condition) (most : ℕ) (r : Literals) → (r.fault ≡ 0 → ⊥)
+pub refuse : (text : List ℕ) (from : From) (P : List ℕ) (pos c h : ℕ) (q : Condition) (most : ℕ) (r : LiteralsTold) → (r.fault ≡ 0 → ⊥)
     → Refuses text from P c h q most r.fault r.at → Adds text from P pos c h q most r P
 refuse text from P pos c h q most r n f = record { long = refl; outcome = faulted n f }
+
+-- a refusal is the same whatever stands for what it has not
+pub adds-again : (text : List ℕ) (from : From) (P : List ℕ) (pos c h : ℕ) (q : Condition) (most : ℕ) (r w : LiteralsTold) (Q : List ℕ) → (r.fault ≡ 0 → ⊥)
+    → Adds text from P pos c h q most r Q → r.fault ≡ w.fault → r.at ≡ w.at → Adds text from P pos c h q most w Q
+adds-again text from P pos c h q most r w Q n a e p =
+    record {
+      long = a.long;
+      outcome = faulted (λ z. n (e ∙ z)) (subst (λ (f : ℕ). Refuses text from P c h q most f w.at) e (subst (λ (i : ℕ). Refuses text from P c h q most r.fault i) p (ill a.outcome n)));
+    }
 
 -- ---- `i]`
 
@@ -193,7 +205,7 @@ store_of P c h (a_production x) k e = absurd (omega arith)
 -- what was picked: its cell, and what it leads to
 module _ (text P : List ℕ) (c h pos : ℕ) (t : Seen) (sees : Sees text pos t) where
   pub picked-store : (f cell : ℕ) → Picks text P h t 1 f cell → f ≡ 0 → (ns : Names) → Cells text P c h ns.declared
-      → (n : ℕ) × (w : ℕ) × StoreAt P c cell n w × (t.kind ≡ 18) × ((i s : ℕ → ℕ → Step) (d : List Literal → Step) (p : Exp → Step) → known ns (seen text t) i s d p ≡ s n w)
+      → (n : ℕ) × (w : ℕ) × StoreAt P c cell n w × (t.kind ≡ kind.Name) × ((i s : ℕ → ℕ → Step) (d : List Literal → Step) (p : Exp → Step) → known ns (seen text t) i s d p ≡ s n w)
   unfolding Picks by_kind
   picked-store f cell pick z ns k =
       let p = well (pick c ns k) z in
@@ -201,7 +213,7 @@ module _ (text P : List ℕ) (c h pos : ℕ) (t : Seen) (sees : Sees text pos t)
       (n, w, st, p.name, λ i s d o. known-name text pos t sees p.name ns (some (a_store n w)) (p.found ∙ ap some e) i s d o)
 
   pub picked-input : (f cell : ℕ) → Picks text P h t 0 f cell → f ≡ 0 → (ns : Names) → Cells text P c h ns.declared
-      → (lo : ℕ) × (w : ℕ) × InputAt P c cell lo w × (t.kind ≡ 18) × ((i s : ℕ → ℕ → Step) (d : List Literal → Step) (p : Exp → Step) → known ns (seen text t) i s d p ≡ i lo w)
+      → (lo : ℕ) × (w : ℕ) × InputAt P c cell lo w × (t.kind ≡ kind.Name) × ((i s : ℕ → ℕ → Step) (d : List Literal → Step) (p : Exp → Step) → known ns (seen text t) i s d p ≡ i lo w)
   unfolding Picks by_kind
   picked-input f cell pick z ns k =
       let p = well (pick c ns k) z in
@@ -267,7 +279,7 @@ module _ (text P : List ℕ) (c h pos : ℕ) (t : Seen) (sees : Sees text pos t)
 -- ---- what wires are compared with
 
 -- the same from another place, where reading comes to the same; what stands there is known up to some i
-module _ (text : List ℕ) (from : From) (I : Type 0) (there : I → From) (good : I → Type 0) (P : List ℕ) (pos next c h : ℕ) (q : Condition) (most : ℕ) (r : Literals) (Q : List ℕ) where
+module _ (text : List ℕ) (from : From) (I : Type 0) (there : I → From) (good : I → Type 0) (P : List ℕ) (pos next c h : ℕ) (q : Condition) (most : ℕ) (r : LiteralsTold) (Q : List ℕ) where
   pub from_each : pos ≤ next → (i : I) → good i → ((i : I) → good i → Adds text (there i) P next c h q most r Q)
       → ((ns : Names) → Cells text P c h ns.declared → (i : I) × good i × ((x : Context) (ls : List Literal) → ConditionIs P c q ls → most ≡ most_of x → from ns x ls ≡ there i ns x ls))
       → Adds text from P pos c h q most r Q
@@ -287,13 +299,13 @@ module _ (text : List ℕ) (from : From) (I : Type 0) (there : I → From) (good
           })
       by (faulted n f) = faulted n (λ ns k ls u x m. let (j, o, same) = e ns k in same x ls u m ∙ ill (a j o).outcome n ns k ls u x m)
 
-pub from-cond : (text : List ℕ) (from there : From) (P : List ℕ) (pos next c h : ℕ) (q : Condition) (most : ℕ) (r : Literals) (Q : List ℕ)
+pub from-cond : (text : List ℕ) (from there : From) (P : List ℕ) (pos next c h : ℕ) (q : Condition) (most : ℕ) (r : LiteralsTold) (Q : List ℕ)
     → pos ≤ next → ((ns : Names) → Cells text P c h ns.declared → (x : Context) (ls : List Literal) → ConditionIs P c q ls → most ≡ most_of x → from ns x ls ≡ there ns x ls)
     → Adds text there P next c h q most r Q → Adds text from P pos c h q most r Q
 from-cond text from there P pos next c h q most r Q l e a =
     from_each text from (Unit {0}) (λ i. there) (λ i. Unit {0}) P pos next c h q most r Q l tt tt (λ i g. a) (λ ns k. (tt, tt, e ns k))
 
-pub from-there : (text : List ℕ) (from there : From) (P : List ℕ) (pos next c h : ℕ) (q : Condition) (most : ℕ) (r : Literals) (Q : List ℕ)
+pub from-there : (text : List ℕ) (from there : From) (P : List ℕ) (pos next c h : ℕ) (q : Condition) (most : ℕ) (r : LiteralsTold) (Q : List ℕ)
     → pos ≤ next → ((ns : Names) → Cells text P c h ns.declared → (x : Context) (ls : List Literal) → from ns x ls ≡ there ns x ls)
     → Adds text there P next c h q most r Q → Adds text from P pos c h q most r Q
 from-there text from there P pos next c h q most r Q l e = from-cond text from there P pos next c h q most r Q l (λ ns k x ls u m. e ns k x ls)
@@ -303,44 +315,44 @@ module _ (text P : List ℕ) (pos c h : ℕ) (t : Seen) (sees : Sees text pos t)
   equals ns x ls = read_from text pos ns (wire_equals x ls name lo width)
 
   -- `past`
-  pub equals-past : t.kind ≡ 24 → (r : Literals) (Q : List ℕ) → Adds text (λ ns x ls. read_from text t.after ns (sign 6 (past_name x ls name lo width))) P t.after c h q most r Q
+  pub equals-past : t.kind ≡ kind.Word words.Past → (r : LiteralsTold) (Q : List ℕ) → Adds text (λ ns x ls. read_from text t.after ns (sign 6 (past_name x ls name lo width))) P t.after c h q most r Q
       → Adds text equals P pos c h q most r Q
   unfolding step
   equals-past k r Q =
-      from-there text equals (λ ns x ls. read_from text t.after ns (sign 6 (past_name x ls name lo width))) P pos t.after c h q most r Q (let p = past text pos t sees (omega arith) in omega arith) (λ ns d x ls.
+      from-there text equals (λ ns x ls. read_from text t.after ns (sign 6 (past_name x ls name lo width))) P pos t.after c h q most r Q (let p = past text pos t sees k tt in omega arith) (λ ns d x ls.
       on_step text pos t sees ns (wire_equals x ls name lo width) _
-      ((no_number text pos t sees (λ (e : t.kind ≡ 19). omega arith) _).1 _ ∙ yes _ _ _ (is-past text pos t sees ∙ eq-eqb t.kind 24 k)))
+      ((no_number text pos t sees (word-no-number k) _).1 _ ∙ yes _ _ _ (word-on text pos t sees words.Past k)))
 
-  pub equals-store : (t.kind ≡ 24 → ⊥) → (t.kind ≡ 19 → ⊥) → (r : Literals) (Q : List ℕ) → Adds text (by_store text t lo width) P t.place c h q most r Q → Adds text equals P pos c h q most r Q
+  pub equals-store : (t.kind ≡ kind.Word words.Past → ⊥) → ((v : ℕ) → t.kind ≡ kind.Number v → ⊥) → (r : LiteralsTold) (Q : List ℕ) → Adds text (by_store text t lo width) P t.place c h q most r Q → Adds text equals P pos c h q most r Q
   unfolding step
   equals-store o n r Q =
       from-there text equals (by_store text t lo width) P pos t.place c h q most r Q (since text pos t sees inside) (λ ns d x ls.
-      on_step text pos t sees ns (wire_equals x ls name lo width) _ ((no_number text pos t sees n _).1 _ ∙ no _ _ _ (is-past text pos t sees ∙ ne_eqb t.kind 24 o)))
+      on_step text pos t sees ns (wire_equals x ls name lo width) _ ((no_number text pos t sees n _).1 _ ∙ no _ _ _ (word-off text pos t sees words.Past o)))
 
-  module _ (k : t.kind ≡ 19) (top : ℕ) (is : top ≡ 2 ^ width - 1) where
-    number_step : (ns : Names) (x : Context) (ls : List Literal) (b : Bool) → leb (2 ^ width) t.value ≡ b
-        → equals ns x ls ≡ behind text t (choose b (fault 6 t.place) (with_literal ns x ls (wire lo width t.value)))
+  module _ (v : ℕ) (k : t.kind ≡ kind.Number v) (top : ℕ) (is : top ≡ 2 ^ width - 1) where
+    number_step : (ns : Names) (x : Context) (ls : List Literal) (b : Bool) → leb (2 ^ width) v ≡ b
+        → equals ns x ls ≡ behind text t (choose b (fault 6 t.place) (with_literal ns x ls (wire lo width v)))
     unfolding step if_number unless at_token
     number_step ns x ls b e =
         on_step text pos t sees ns (wire_equals x ls name lo width) _
-        (ap (step ns (wire_equals x ls name lo width)) (number_is text pos t sees k) ∙ ap (λ (d : Bool). choose d (fault 6 t.place) (with_literal ns x ls (wire lo width t.value))) e)
+        (ap (step ns (wire_equals x ls name lo width)) (number_is text pos t sees k) ∙ ap (λ (d : Bool). choose d (fault 6 t.place) (with_literal ns x ls (wire lo width v))) e)
 
-    pub equals-large : top < t.value → Adds text equals P pos c h q most (answered 6 t.place c q) P
+    pub equals-large : top < v → Adds text equals P pos c h q most (answered 6 t.place c q) P
     unfolding choose
-    equals-large l = refuse text equals P pos c h q most _ (λ y. omega arith) (λ ns d ls e x m. number_step ns x ls true (le-leb (2 ^ width) t.value (omega arith)))
+    equals-large l = refuse text equals P pos c h q most _ (λ y. omega arith) (λ ns d ls e x m. number_step ns x ls true (le-leb (2 ^ width) v (omega arith)))
 
-    pub equals-number : t.value ≤ top → lo + width ≤ 64 → (r : Condition) → Joined q ((2 ^ width - 1) * 2 ^ lo) (t.value * 2 ^ lo) true r → Adds text equals P pos c h q most (answered 0 t.after c r) P
+    pub equals-number : v ≤ top → lo + width ≤ 64 → (r : Condition) → Joined q ((2 ^ width - 1) * 2 ^ lo) (v * 2 ^ lo) true r → Adds text equals P pos c h q most (answered 0 t.after c r) P
     unfolding choose
     equals-number l s r j =
-        let small : t.value < 2 ^ width = let o = pow_pos width in omega arith in
-        let p = past text pos t sees (omega arith) in
+        let small : v < 2 ^ width = let o = pow_pos width in omega arith in
+        let p = past text pos t sees k tt in
         record {
           long = refl;
           outcome = fine refl (record {
             extends = extends-refl P c;
             spent = record { since = omega arith; inside = p.1; few = omega arith };
             few = λ o. omega (arith, j.tests);
-            reads = λ ns d ls e. (ls ++ (wire lo width t.value ∷ []), wire-added P c q r lo width t.value ls small s e j, λ x m. number_step ns x ls false (lt-leb (2 ^ width) t.value small));
+            reads = λ ns d ls e. (ls ++ (wire lo width v ∷ []), wire-added P c q r lo width v ls small s e j, λ x m. number_step ns x ls false (lt-leb (2 ^ width) v small));
           });
         }
 
@@ -361,27 +373,27 @@ module _ (text P : List ℕ) (at c h : ℕ) (q : Condition) (name : List ℕ) (l
 
   module _ (z : f ≡ 0) (t : Seen) (sees : Sees text a t) where
     -- the token is the wire's name, or not
-    named : (ns : Names) (x : Context) (ls : List Literal) (b : Bool) → (eqb t.kind 18 && same (bytes_of text t) name) ≡ b
-        → step ns (past_name x ls name lo width) (seen text t) ≡ choose b (go ns (sign 7 (literal_more x (ls ++ (wire_past lo width ∷ []))))) (fault t.fault t.place)
+    named : (ns : Names) (x : Context) (ls : List Literal) (b : Bool) → (is_name t.kind && same (bytes_of text t) name) ≡ b
+        → step ns (past_name x ls name lo width) (seen text t) ≡ choose b (go ns (sign 7 (literal_more x (ls ++ (wire_past lo width ∷ []))))) (fault (fault_of t.kind) t.place)
     unfolding step on_name if_name
-    named ns x ls b e = by (eqb t.kind 18) refl e
+    named ns x ls b e = by (is_name t.kind) refl e
       where
-        by : (k : Bool) → eqb t.kind 18 ≡ k → (k && same (bytes_of text t) name) ≡ b
-            → step ns (past_name x ls name lo width) (seen text t) ≡ choose b (go ns (sign 7 (literal_more x (ls ++ (wire_past lo width ∷ []))))) (fault t.fault t.place)
+        by : (k : Bool) → is_name t.kind ≡ k → (k && same (bytes_of text t) name) ≡ b
+            → step ns (past_name x ls name lo width) (seen text t) ≡ choose b (go ns (sign 7 (literal_more x (ls ++ (wire_past lo width ∷ []))))) (fault (fault_of t.kind) t.place)
         by true k f =
-            let n = name-is text a t sees (eqb-true t.kind 18 k) in
+            let n = name-is text a t sees (name-true t.kind k) in
             ap (step ns (past_name x ls name lo width)) n
             ∙ ap₂ (λ (y : Bool) (s : Step). choose y (go ns (sign 7 (literal_more x (ls ++ (wire_past lo width ∷ []))))) s) f
             (ap not_here (sym n) ∙ not-here text a t sees)
-        by false k f = no_name text a t sees (eqb-false t.kind 18 k) _ ∙ sym (no b _ _ (sym f))
+        by false k f = no_name text a t sees (name-false t.kind k) _ ∙ sym (no b _ _ (sym f))
 
-    pub past-other : (eqb t.kind 18 && same (bytes_of text t) name) ≡ false → Adds text pasts P at c h q most (answered t.fault t.place c q) P
+    pub past-other : (is_name t.kind && same (bytes_of text t) name) ≡ false → Adds text pasts P at c h q most (answered (fault_of t.kind) t.place c q) P
     unfolding Behind
     past-other e =
         refuse text pasts P at c h q most _ (faults text a t sees) (λ ns k ls d x m.
         (well paren z).1 ns _ ∙ on_step text a t sees ns (past_name x ls name lo width) _ (named ns x ls false e ∙ no _ _ _ refl))
 
-    module _ (e : (eqb t.kind 18 && same (bytes_of text t) name) ≡ true) (g b : ℕ) (close : Behind text t.after g b (sign 7)) where
+    module _ (e : (is_name t.kind && same (bytes_of text t) name) ≡ true) (g b : ℕ) (close : Behind text t.after g b (sign 7)) where
       named-on : (ns : Names) (x : Context) (ls : List Literal) → pasts ns x ls ≡ read_from text t.after ns (sign 7 (literal_more x (ls ++ (wire_past lo width ∷ []))))
       unfolding Behind
       named-on ns x ls = (well paren z).1 ns _ ∙ on_step text a t sees ns (past_name x ls name lo width) _ (named ns x ls true e ∙ yes _ _ _ refl)
@@ -408,7 +420,7 @@ module _ (text P : List ℕ) (at c h : ℕ) (q : Condition) (name : List ℕ) (l
           }
         where
           past-kind-name : a ≤ t.after
-          past-kind-name = let p = past text a t sees (omega (arith, eqb-true t.kind 18 (and_left (eqb t.kind 18) _ e))) in omega (arith, p)
+          past-kind-name = let p = past text a t sees (name-true t.kind (and_left (is_name t.kind) _ e)) tt in omega (arith, p)
 
 -- ---- behind the name of wires
 
@@ -419,34 +431,34 @@ module _ (text P : List ℕ) (pos c h : ℕ) (t : Seen) (sees : Sees text pos t)
   abbrev wires : From
   wires ns x ls = read_from text pos ns (wire_more x ls name lo width v place)
 
-  pub wires-bit : t.kind ≡ 8 → (r : Literals) (Q : List ℕ) → Adds text (λ ns x ls. read_from text t.after ns (bit_index x ls lo width v)) P t.after c h q most r Q → Adds text wires P pos c h q most r Q
+  pub wires-bit : t.kind ≡ kind.Sign signs.LeftBracket → (r : LiteralsTold) (Q : List ℕ) → Adds text (λ ns x ls. read_from text t.after ns (bit_index x ls lo width v)) P t.after c h q most r Q → Adds text wires P pos c h q most r Q
   unfolding step
   wires-bit k r Q =
-      from-there text wires (λ ns x ls. read_from text t.after ns (bit_index x ls lo width v)) P pos t.after c h q most r Q (let p = past text pos t sees (omega arith) in omega arith) (λ ns d x ls.
-      on_step text pos t sees ns (wire_more x ls name lo width v place) (go ns (bit_index x ls lo width v)) (yes _ _ _ (is-on text pos t sees 8 (omega arith) k)))
+      from-there text wires (λ ns x ls. read_from text t.after ns (bit_index x ls lo width v)) P pos t.after c h q most r Q (let p = past text pos t sees k tt in omega arith) (λ ns d x ls.
+      on_step text pos t sees ns (wire_more x ls name lo width v place) (go ns (bit_index x ls lo width v)) (yes _ _ _ (is-on text pos t sees signs.LeftBracket k)))
 
-  module _ (no8 : t.kind ≡ 8 → ⊥) where
-    pub wires-equals : t.kind ≡ 14 → v ≡ 1 → (r : Literals) (Q : List ℕ) → Adds text (λ ns x ls. read_from text t.after ns (wire_equals x ls name lo width)) P t.after c h q most r Q → Adds text wires P pos c h q most r Q
+  module _ (no8 : t.kind ≡ kind.Sign signs.LeftBracket → ⊥) where
+    pub wires-equals : t.kind ≡ kind.Sign signs.DoubleEquals → v ≡ 1 → (r : LiteralsTold) (Q : List ℕ) → Adds text (λ ns x ls. read_from text t.after ns (wire_equals x ls name lo width)) P t.after c h q most r Q → Adds text wires P pos c h q most r Q
     unfolding step
     wires-equals k e r Q =
-        from-there text wires (λ ns x ls. read_from text t.after ns (wire_equals x ls name lo width)) P pos t.after c h q most r Q (let p = past text pos t sees (omega arith) in omega arith) (λ ns d x ls.
+        from-there text wires (λ ns x ls. read_from text t.after ns (wire_equals x ls name lo width)) P pos t.after c h q most r Q (let p = past text pos t sees k tt in omega arith) (λ ns d x ls.
         on_step text pos t sees ns (wire_more x ls name lo width v place) (go ns (wire_equals x ls name lo width))
-        (no _ _ _ (is-off text pos t sees 8 (omega arith) no8) ∙ yes _ _ _ (is-on text pos t sees 14 (omega arith) k) ∙ yes _ _ _ (eq-eqb v 1 e)))
+        (no _ _ _ (is-off text pos t sees signs.LeftBracket no8) ∙ yes _ _ _ (is-on text pos t sees signs.DoubleEquals k) ∙ yes _ _ _ (eq-eqb v 1 e)))
 
-    pub wires-negated : t.kind ≡ 14 → (v ≡ 1 → ⊥) → Adds text wires P pos c h q most (answered t.fault t.place c q) P
+    pub wires-negated : t.kind ≡ kind.Sign signs.DoubleEquals → (v ≡ 1 → ⊥) → Adds text wires P pos c h q most (answered (fault_of t.kind) t.place c q) P
     unfolding step
     wires-negated k n =
         refuse text wires P pos c h q most _ (faults text pos t sees) (λ ns d ls e x m.
         on_step text pos t sees ns (wire_more x ls name lo width v place) _
-        (no _ _ _ (is-off text pos t sees 8 (omega arith) no8) ∙ yes _ _ _ (is-on text pos t sees 14 (omega arith) k) ∙ no _ _ _ (ne_eqb v 1 n) ∙ not-here text pos t sees))
+        (no _ _ _ (is-off text pos t sees signs.LeftBracket no8) ∙ yes _ _ _ (is-on text pos t sees signs.DoubleEquals k) ∙ no _ _ _ (ne_eqb v 1 n) ∙ not-here text pos t sees))
 
-    module _ (no14 : t.kind ≡ 14 → ⊥) where
+    module _ (no14 : t.kind ≡ kind.Sign signs.DoubleEquals → ⊥) where
       alone : (ns : Names) (x : Context) (ls : List Literal) (b : Bool) → eqb width 1 ≡ b
           → wires ns x ls ≡ behind text t (choose b (behind_literal ns x (ls ++ (wire lo 1 v ∷ [])) (seen text t)) (fault 6 place))
       unfolding step
       alone ns x ls b e =
           on_step text pos t sees ns (wire_more x ls name lo width v place) _
-          (no _ _ _ (is-off text pos t sees 8 (omega arith) no8) ∙ no _ _ _ (is-off text pos t sees 14 (omega arith) no14)
+          (no _ _ _ (is-off text pos t sees signs.LeftBracket no8) ∙ no _ _ _ (is-off text pos t sees signs.DoubleEquals no14)
           ∙ ap (λ (d : Bool). choose d (behind_literal ns x (ls ++ (wire lo 1 v ∷ [])) (seen text t)) (fault 6 place)) e)
 
       pub wires-wide : (width ≡ 1 → ⊥) → Adds text wires P pos c h q most (answered 6 place c q) P
@@ -491,7 +503,7 @@ module _ (text P : List ℕ) (pos c h : ℕ) (t : Seen) (sees : Sees text pos t)
 
   pub input-past : f ≡ 0 → Past text pos t.after
   unfolding Picks
-  input-past z = let (ns, k) = g.names in let p = well (pick c ns k) z in past text pos t sees (let e = p.name in omega arith)
+  input-past z = let (ns, k) = g.names in let p = well (pick c ns k) z in past text pos t sees p.name tt
 
   pub input-inside : f ≡ 0 → (cell + 1 < length P) × (1 ≤ part1 (at P (cell + 1))) × (part0 (at P (cell + 1)) + part1 (at P (cell + 1)) ≤ 64)
   input-inside z =
@@ -500,7 +512,7 @@ module _ (text P : List ℕ) (pos c h : ℕ) (t : Seen) (sees : Sees text pos t)
       let r = g.room in
       (omega (arith, st.used, r.fits, r.inside), rw st.wide st.some, rw (st.low, st.wide) st.inside)
 
-  pub input-read : f ≡ 0 → (lo w : ℕ) → lo ≡ part0 (at P (cell + 1)) → w ≡ part1 (at P (cell + 1)) → (r : Literals) (Q : List ℕ)
+  pub input-read : f ≡ 0 → (lo w : ℕ) → lo ≡ part0 (at P (cell + 1)) → w ≡ part1 (at P (cell + 1)) → (r : LiteralsTold) (Q : List ℕ)
       → Adds text (λ ns x ls. read_from text t.after ns (wire_more x ls (bytes_of text t) lo w 0 t.place)) P t.after c h q most r Q → Adds text nots P pos c h q most r Q
   unfolding step seen
   input-read z lo w el ew r Q =
@@ -511,7 +523,7 @@ module _ (text P : List ℕ) (pos c h : ℕ) (t : Seen) (sees : Sees text pos t)
 
 -- ---- the name of a define
 
-module _ (text P : List ℕ) (pos c h : ℕ) (t : Seen) (sees : Sees text pos t) (name : t.kind ≡ 18) (q : Condition) (most cell : ℕ) (g : Given text P t.place c h q) where
+module _ (text P : List ℕ) (pos c h : ℕ) (t : Seen) (sees : Sees text pos t) (name : t.kind ≡ kind.Name) (q : Condition) (most cell : ℕ) (g : Given text P t.place c h q) where
   pub define-inside : (ds : List Literal) → DefineAt P c cell ds → cell + 3 < length P
   define-inside ds d = let r = g.room in omega (arith, d.used, r.fits, r.inside)
 
@@ -553,7 +565,7 @@ module _ (text P : List ℕ) (pos c h : ℕ) (t : Seen) (sees : Sees text pos t)
 
 -- ---- the name of a store
 
-module _ (text P : List ℕ) (pos c h : ℕ) (t : Seen) (sees : Sees text pos t) (name : t.kind ≡ 18) (q : Condition) (most cell : ℕ) (g : Given text P t.place c h q) where
+module _ (text P : List ℕ) (pos c h : ℕ) (t : Seen) (sees : Sees text pos t) (name : t.kind ≡ kind.Name) (q : Condition) (most cell : ℕ) (g : Given text P t.place c h q) where
   pub test-inside : (n w : ℕ) → StoreAt P c cell n w → (cell + 1 < length P) × (part0 (at P (cell + 1)) < 16) × (1 ≤ part1 (at P (cell + 1))) × (part1 (at P (cell + 1)) ≤ 64)
   test-inside n w s = let r = g.room in (omega (arith, s.used, r.fits, r.inside), rw s.own s.few, rw s.wide s.some, rw s.wide s.inside)
 
@@ -563,7 +575,7 @@ module _ (text P : List ℕ) (pos c h : ℕ) (t : Seen) (sees : Sees text pos t)
       refuse text (by_test text t n w) P t.place c h q most _ (λ y. omega arith) (λ ns k ls e x m.
       ap (behind text t) (wrong _ _ _ _ (too_many_lem most q.tests 1 1 x ls m e.tests.count (omega arith) l)))
 
-  pub test_read : q.tests + 1 ≤ most → (own wide : ℕ) → own ≡ part0 (at P (cell + 1)) → wide ≡ part1 (at P (cell + 1)) → (r : Literals) (Q : List ℕ)
+  pub test_read : q.tests + 1 ≤ most → (own wide : ℕ) → own ≡ part0 (at P (cell + 1)) → wide ≡ part1 (at P (cell + 1)) → (r : LiteralsTold) (Q : List ℕ)
       → Adds text (λ ns x ls. read_from text t.after ns (sign 14 (store_equals x ls own wide))) P t.after c h q most r Q
       → (n w : ℕ) → StoreAt P c cell n w → Adds text (by_test text t n w) P t.place c h q most r Q
   test_read few own wide eo ew r Q a n w s =
@@ -574,7 +586,7 @@ module _ (text P : List ℕ) (pos c h : ℕ) (t : Seen) (sees : Sees text pos t)
 
 -- ---- a name
 
-module _ (text P : List ℕ) (pos c h : ℕ) (t : Seen) (sees : Sees text pos t) (name : t.kind ≡ 18) (q : Condition) (most cell : ℕ) (g : Given text P t.place c h q)
+module _ (text P : List ℕ) (pos c h : ℕ) (t : Seen) (sees : Sees text pos t) (name : t.kind ≡ kind.Name) (q : Condition) (most cell : ℕ) (g : Given text P t.place c h q)
     (f : Finds text P h (bytes_of text t) cell) where
   -- what is read by what the name means
   by-meaning : (ns : Names) (x : Context) (ls : List Literal) (o : Option Meaning) → lookup (bytes_of text t) ns.declared ≡ o
@@ -622,7 +634,7 @@ module _ (text P : List ℕ) (pos c h : ℕ) (t : Seen) (sees : Sees text pos t)
         let (lo, w, e, i) = input_of P c cell m y (numbered m y ∙ z) in
         (rw i.wide i.some, rw (i.low, i.wide) i.inside)
 
-    pub name-wires : kind ≡ 0 → (lo w : ℕ) → lo ≡ part0 (at P (cell + 1)) → w ≡ part1 (at P (cell + 1)) → (r : Literals) (Q : List ℕ)
+    pub name-wires : kind ≡ 0 → (lo w : ℕ) → lo ≡ part0 (at P (cell + 1)) → w ≡ part1 (at P (cell + 1)) → (r : LiteralsTold) (Q : List ℕ)
         → Adds text (λ ns x ls. read_from text t.after ns (wire_more x ls (bytes_of text t) lo w 1 t.place)) P t.after c h q most r Q → Adds text (by_name text t) P t.place c h q most r Q
     unfolding by_kind
     name-wires z lo w el ew r Q =
@@ -636,7 +648,7 @@ module _ (text P : List ℕ) (pos c h : ℕ) (t : Seen) (sees : Sees text pos t)
     pub define-at : kind ≡ 2 → (ds : List Literal) × DefineAt P c cell ds
     define-at z = let (ns, k) = g.names in let (m, l, y) = meant n ns k in let (ds, e, d) = define-of P c cell m y (numbered m y ∙ z) in (ds, d)
 
-    pub name-define : kind ≡ 2 → (r : Literals) (Q : List ℕ) → ((ds : List Literal) → DefineAt P c cell ds → Adds text (by_define text t ds) P t.place c h q most r Q)
+    pub name-define : kind ≡ 2 → (r : LiteralsTold) (Q : List ℕ) → ((ds : List Literal) → DefineAt P c cell ds → Adds text (by_define text t ds) P t.place c h q most r Q)
         → Adds text (by_name text t) P t.place c h q most r Q
     unfolding by_kind
     name-define z r Q a =
@@ -649,7 +661,7 @@ module _ (text P : List ℕ) (pos c h : ℕ) (t : Seen) (sees : Sees text pos t)
     pub test_at : kind ≡ 1 → (s : ℕ) × (w : ℕ) × StoreAt P c cell s w
     test_at z = let (ns, k) = g.names in let (m, l, y) = meant n ns k in let (s, w, e, d) = store_of P c cell m y (numbered m y ∙ z) in (s, w, d)
 
-    pub name-store : kind ≡ 1 → (r : Literals) (Q : List ℕ) → ((s w : ℕ) → StoreAt P c cell s w → Adds text (by_test text t s w) P t.place c h q most r Q)
+    pub name-store : kind ≡ 1 → (r : LiteralsTold) (Q : List ℕ) → ((s w : ℕ) → StoreAt P c cell s w → Adds text (by_test text t s w) P t.place c h q most r Q)
         → Adds text (by_name text t) P t.place c h q most r Q
     unfolding by_kind
     name-store z r Q a =
@@ -682,30 +694,30 @@ module _ (text P : List ℕ) (pos c h : ℕ) (t : Seen) (sees : Sees text pos t)
   abbrev literals : From
   literals ns x ls = read_from text pos ns (literal x ls)
 
-  pub literal-not : t.kind ≡ 5 → (r : Literals) (Q : List ℕ) → Adds text (λ ns x ls. read_from text t.after ns (negated x ls)) P t.after c h q most r Q → Adds text literals P pos c h q most r Q
+  pub literal-not : t.kind ≡ kind.Sign signs.Bang → (r : LiteralsTold) (Q : List ℕ) → Adds text (λ ns x ls. read_from text t.after ns (negated x ls)) P t.after c h q most r Q → Adds text literals P pos c h q most r Q
   unfolding step
   literal-not k r Q =
       let there : From = λ ns x ls. read_from text t.after ns (negated x ls) in
-      from-there text literals there P pos t.after c h q most r Q (let p = past text pos t sees (omega arith) in omega arith) (λ ns d x ls.
-      on_step text pos t sees ns (literal x ls) (go ns (negated x ls)) (yes _ _ _ (is-on text pos t sees 5 (omega arith) k)))
+      from-there text literals there P pos t.after c h q most r Q (let p = past text pos t sees k tt in omega arith) (λ ns d x ls.
+      on_step text pos t sees ns (literal x ls) (go ns (negated x ls)) (yes _ _ _ (is-on text pos t sees signs.Bang k)))
 
-  pub literal-none : (t.kind ≡ 5 → ⊥) → (t.kind ≡ 18 → ⊥) → Adds text literals P pos c h q most (answered t.fault t.place c q) P
+  pub literal-none : (t.kind ≡ kind.Sign signs.Bang → ⊥) → (t.kind ≡ kind.Name → ⊥) → Adds text literals P pos c h q most (answered (fault_of t.kind) t.place c q) P
   unfolding step literal_name known
   literal-none n m =
       refuse text literals P pos c h q most _ (faults text pos t sees) (λ ns k ls e x o.
-      on_step text pos t sees ns (literal x ls) _ (no _ _ _ (is-off text pos t sees 5 (omega arith) n) ∙ no_name text pos t sees m _))
+      on_step text pos t sees ns (literal x ls) _ (no _ _ _ (is-off text pos t sees signs.Bang n) ∙ no_name text pos t sees m _))
 
-  pub literal-named : (t.kind ≡ 5 → ⊥) → (r : Literals) (Q : List ℕ) → Adds text (by_name text t) P t.place c h q most r Q → Adds text literals P pos c h q most r Q
+  pub literal-named : (t.kind ≡ kind.Sign signs.Bang → ⊥) → (r : LiteralsTold) (Q : List ℕ) → Adds text (by_name text t) P t.place c h q most r Q → Adds text literals P pos c h q most r Q
   unfolding step
   literal-named n r Q =
       from-there text literals (by_name text t) P pos t.place c h q most r Q (since text pos t sees inside) (λ ns d x ls.
-      on_step text pos t sees ns (literal x ls) _ (no _ _ _ (is-off text pos t sees 5 (omega arith) n)))
+      on_step text pos t sees ns (literal x ls) _ (no _ _ _ (is-off text pos t sees signs.Bang n)))
 
 -- ---- the literals that follow
 
 module _ (text : List ℕ) (from : From) (P : List ℕ) (pos c h : ℕ) (q : Condition) (most : ℕ) where
   -- what a function is given for the next literal
-  pub given-next : (r : Literals) (Q : List ℕ) → Given text P pos c h q → Added text from P pos c h q most r Q → (next : ℕ) → r.at ≤ next → next ≤ length text → Given text Q next r.free h r.condition
+  pub given-next : (r : LiteralsTold) (Q : List ℕ) → Given text P pos c h q → Added text from P pos c h q most r Q → (next : ℕ) → r.at ≤ next → next ≤ length text → Given text Q next r.free h r.condition
   given-next r Q g a next l m =
       let o = g.room in
       let s = a.spent in
@@ -719,14 +731,14 @@ module _ (text : List ℕ) (from : From) (P : List ℕ) (pos c h : ℕ) (q : Con
       }
 
   -- literals, and then one behind `&`
-  pub added_next : (r : Literals) (Q : List ℕ) → Added text from P pos c h q most r Q → (t : Seen) → Sees text r.at t → t.kind ≡ 4
-      → (w : Literals) (R : List ℕ) → Adds text (λ ns x ls. read_from text t.after ns (literal x ls)) Q t.after r.free h r.condition most w R → Adds text from P pos c h q most w R
+  pub added_next : (r : LiteralsTold) (Q : List ℕ) → Added text from P pos c h q most r Q → (t : Seen) → Sees text r.at t → t.kind ≡ kind.Sign signs.Ampersand
+      → (w : LiteralsTold) (R : List ℕ) → Adds text (λ ns x ls. read_from text t.after ns (literal x ls)) Q t.after r.free h r.condition most w R → Adds text from P pos c h q most w R
   unfolding step behind_literal
   added_next r Q a t sees k w R b = record { long = b.long ∙ a.extends.long; outcome = by b.outcome }
     where
       amp : (ns : Names) (x : Context) (ls : List Literal) → step ns (literal_more x ls) (seen text t) ≡ go ns (literal x ls)
-      amp ns (in_define s) ls = yes _ _ _ (is-on text r.at t sees 4 (omega arith) k)
-      amp ns (in_letter o) ls = yes _ _ _ (is-on text r.at t sees 4 (omega arith) k)
+      amp ns (in_define s) ls = yes _ _ _ (is-on text r.at t sees signs.Ampersand k)
+      amp ns (in_letter o) ls = yes _ _ _ (is-on text r.at t sees signs.Ampersand k)
 
       onto : (ns : Names) (x : Context) (ls : List Literal) → read_from text r.at ns (literal_more x ls) ≡ read_from text t.after ns (literal x ls)
       onto ns x ls = on_step text r.at t sees ns (literal_more x ls) _ (amp ns x ls)
@@ -734,7 +746,7 @@ module _ (text : List ℕ) (from : From) (P : List ℕ) (pos c h : ℕ) (q : Con
       by : Unless w.fault (Added text (λ ns x ls. read_from text t.after ns (literal x ls)) Q t.after r.free h r.condition most w R) (Refuses text (λ ns x ls. read_from text t.after ns (literal x ls)) Q r.free h r.condition most w.fault w.at)
           → Unless w.fault (Added text from P pos c h q most w R) (Refuses text from P c h q most w.fault w.at)
       by (fine z d) =
-          let p = past text r.at t sees (omega arith) in
+          let p = past text r.at t sees k tt in
           fine z (record {
             extends = extends-then a.extends d.extends;
             spent = let s = a.spent in let u = d.spent in record { since = omega (arith, s.since, u.since); inside = u.inside; few = omega (arith, s.few, u.few) };

@@ -1,12 +1,14 @@
 -- The monitors one by one, and rule 8: the letters are summed up to the first monitor that passes the limit. Assumes nothing.
 use mathlib.Core.Path.{◌≡◌, refl, ◌∙◌, ap}
+use Rattle.std.specs.Prelude.{Some, None}
 use mathlib.Core.Bool.{Bool, true, false, cond}
 use mathlib.Core.List.{List, [], ◌∷◌}
 use Prim.Native.Nat.{ℕ, suc, ◌+◌, ◌<◌, ◌≤◌}
 use native.Mathlib.Numerals.{add-one}
 use native.Mathlib.Omega.{arith}
 use lib.Dec.{ltb}
-use lib.ListN.{length, get_or}
+use lib.ListN.{length, get_or, take}
+use lib.Seq.{get_or-take, length-take-le}
 use borrow.Author.Tests.{lt-ltb, le-ltb}
 use Rattle.meaning.specs.Lists.{total}
 use Rattle.meaning.specs.Answers.{Answer, refused, letter_of}
@@ -14,7 +16,7 @@ use Rattle.meaning.specs.Expression.{Exp, size}
 use Rattle.meaning.specs.Opening.{Opened, too_long}
 use Rattle.words.specs.Words.{part0}
 use Rattle.rules.specs.Cells.{at, ProductionAt}
-use Rattle.rules.specs.Monitors.{Listed, MonitorsAre, SomeMonitors, FirstLong}
+use Rattle.rules.specs.Monitors.{Listed, MonitorsAre, SomeMonitors, FewLetters, FirstLong}
 
 -- ---- the monitors that are still ahead
 
@@ -49,6 +51,28 @@ module _ {P : List ℕ} {c : ℕ} {M : List ℕ} {count : ℕ} where
   none_ahead i [] a l = refl
   none_ahead i (m ∷ ms) a l = absurd (l (omega (arith, a.number)))
 
+-- the first cells of a longer list
+module _ (P : List ℕ) (c : ℕ) (M : List ℕ) (count : ℕ) where
+  listed-front : (i : ℕ) (ms : List Exp) → i + length ms ≤ count → Listed P c M i ms → Listed P c (take count M) i ms
+  unfolding Listed
+  listed-front i [] l a = tt
+  listed-front i (m ∷ ms) l a =
+      let g = get_or-take count M i 0 (omega arith) in
+      (rw g a.0, listed-front (suc i) ms (omega arith) a.1)
+
+  pub front-monitors : count ≤ length M → {ms : List Exp} → MonitorsAre P c M count ms → MonitorsAre P c (take count M) (length (take count M)) ms
+  front-monitors l {ms} w =
+      let g = length-take-le count M l in
+      rw g
+      (record { within = w.within; number = w.number; few = w.few; cells = listed-front 0 ms (omega (arith, w.number)) w.cells })
+
+module _ (P M : List ℕ) (count : ℕ) (l : count ≤ length M) where
+  pub front-some : SomeMonitors P M count → SomeMonitors P (take count M) (length (take count M))
+  front-some (c, ms, w) = (c, ms, front-monitors P c M count l w)
+
+  pub front-few : FewLetters P M count → FewLetters P (take count M) (length (take count M))
+  front-few (c, ms, w, s) = (c, ms, front-monitors P c M count l w, s)
+
 -- ---- rule 8
 
 -- the monitors before number i have so many letters, and passed no limit
@@ -73,13 +97,13 @@ module _ (P M : List ℕ) (count : ℕ) where
         let n = next-ahead i s.rest s.ahead l in
         omega (arith, n.production.used, w.within)
 
-    pub summed-end : (i < count → ⊥) → (c : ℕ) → (ms : List Exp) → MonitorsAre P c M count ms → sum ≤ 256 → FirstLong ms count count
+    pub summed-end : (i < count → ⊥) → (c : ℕ) → (ms : List Exp) → MonitorsAre P c M count ms → sum ≤ 256 → FirstLong ms None
     unfolding FirstLong too_long
     summed-end l c ms w b =
         let s = a c ms w in
         let e = none_ahead i s.rest s.ahead l in
         let t : total size s.rest ≡ 0 = ap (total size) e in
-        ((λ z. (omega (arith, s.sums), λ o. s.same o ∙ ap (λ (x : List Exp). too_long i sum x o) e)), λ n. absurd (n refl))
+        (omega (arith, s.sums), λ o. s.same o ∙ ap (λ (x : List Exp). too_long i sum x o) e)
 
     module _ (k : ℕ) (q : k ≡ part0 (at P (get_or M i 0 + 2))) (l : i < count) where
       -- the next monitor is counted
@@ -90,13 +114,13 @@ module _ (P M : List ℕ) (count : ℕ) where
           (a c ms w).same o ∙ ap (λ (x : List Exp). too_long i sum x o) n.split
           ∙ ap (λ (t : Bool). cond t (refused 8 (letter_of i 0)) (too_long (suc i) (sum + size n.monitor) n.others o)) e
 
-      pub over : 256 < sum + k → (c : ℕ) → (ms : List Exp) → MonitorsAre P c M count ms → FirstLong ms count i
+      pub over : 256 < sum + k → (c : ℕ) → (ms : List Exp) → MonitorsAre P c M count ms → FirstLong ms (Some i)
       unfolding FirstLong
       over b c ms w =
           let s = a c ms w in
           let n = next-ahead i s.rest s.ahead l in
           let h = lt-ltb 256 (sum + size n.monitor) (omega (arith, n.production.letters)) in
-          ((λ z. absurd (omega arith)), λ z. asked c ms w n true h)
+          asked c ms w n true h
 
       pub summed-next : (256 < sum + k → ⊥) → AllSummed P M count (i + 1) (sum + k)
       summed-next b c ms w =

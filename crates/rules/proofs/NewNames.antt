@@ -17,8 +17,9 @@ use Rattle.refusals.specs.Numbers.{twice, oversize, crowded}
 use Rattle.meaning.specs.Reading.{Expect, Step, is_known, unless, on_name, if_name, new_name, step, and_then}
 use Rattle.meaning.specs.Names.{Names}
 use Rattle.rules.specs.declared.declarations.Scope.{Scope}
-use Rattle.rules.specs.declared.tokens.Seen.{Seen}
-use Rattle.rules.specs.Seen.{Sees}
+use Rattle.lexer.specs.declared.Token.{Token as Seen}
+use Rattle.lexer.specs.declared.Kind.TheVariants as kind
+use Rattle.rules.specs.Seen.{fault_of, Sees}
 use Rattle.rules.specs.Cells.{Cells, Finds}
 use Rattle.rules.specs.Picks.{bytes_of}
 use Rattle.rules.specs.Reads.{read_from, fine, faulted, placed}
@@ -30,13 +31,13 @@ use Rattle.rules.proofs.OnNumber.{on-token}
 -- ---- what the function answers
 
 module _ (text P : List ℕ) (scope : Scope) (pos : ℕ) (no_wire full : Bool) (t : Seen) (e : Sees text pos t) where
-  pub new_none : (t.kind ≡ 18 → ⊥) → NameRead text P scope pos no_wire full t.fault t.place t.after
+  pub new_none : (t.kind ≡ kind.Name → ⊥) → (a : ℕ) → NameRead text P scope pos no_wire full (fault_of t.kind) t.place a
   unfolding NameRead new_name
-  new_none q =
+  new_none q a =
       faulted (faults text pos t e) (λ c ns k n next.
       ap (λ (u : Placed). new_name ns u no_wire full next) (sym e.token) ∙ no_name text pos t e q _)
 
-  module _ (q : t.kind ≡ 18) (r : ℕ) (f : Finds text P scope.last (bytes_of text t) r) where
+  module _ (q : t.kind ≡ kind.Name) (r : ℕ) (f : Finds text P scope.last (bytes_of text t) r) where
     -- the token
     abbrev name : Placed
     name = placed (token.name (bytes_of text t)) t.place t.after
@@ -51,9 +52,9 @@ module _ (text P : List ℕ) (scope : Scope) (pos : ℕ) (no_wire full : Bool) (
     unfolding new_name on_name if_name
     tests ns next = ap (λ (u : Placed). new_name ns u no_wire full next) is_name
 
-    pub new-known : (r ≡ 0 → ⊥) → NameRead text P scope pos no_wire full 5 t.place t.after
+    pub new-known : (r ≡ 0 → ⊥) → (a : ℕ) → NameRead text P scope pos no_wire full 5 t.place a
     unfolding NameRead
-    new-known n =
+    new-known n a =
         faulted (λ z. omega arith) (λ c ns k m next.
         tests ns next ∙ wrong _ _ _ _ (ap is_known (present P c r (lookup (bytes_of text t) ns.declared) (f c ns.declared k) n).1))
 
@@ -64,26 +65,26 @@ module _ (text P : List ℕ) (scope : Scope) (pos : ℕ) (no_wire full : Bool) (
       not_known : (c : ℕ) (ns : Names) → Cells text P c scope.last ns.declared → is_known (lookup (bytes_of text t) ns.declared) ≡ false
       not_known c ns k = ap is_known (not_found c ns k)
 
-      pub new-wireless : no_wire ≡ true → NameRead text P scope pos no_wire full 6 t.place t.after
+      pub new-wireless : no_wire ≡ true → (a : ℕ) → NameRead text P scope pos no_wire full 6 t.place a
       unfolding NameRead
-      new-wireless w = faulted (λ z. omega arith) (λ c ns k m next. tests ns next ∙ right _ _ _ _ (not_known c ns k) ∙ wrong _ _ _ _ w)
+      new-wireless w a = faulted (λ z. omega arith) (λ c ns k m next. tests ns next ∙ right _ _ _ _ (not_known c ns k) ∙ wrong _ _ _ _ w)
 
       module _ (w : no_wire ≡ false) where
-        crowd : full || leb 128 scope.count ≡ true → NameRead text P scope pos no_wire full 7 t.place t.after
+        crowd : full || leb 128 scope.count ≡ true → (a : ℕ) → NameRead text P scope pos no_wire full 7 t.place a
         unfolding NameRead
-        crowd l =
+        crowd l a =
             faulted (λ z. omega arith) (λ c ns k m next.
             tests ns next ∙ right _ _ _ _ (not_known c ns k) ∙ right _ _ _ _ w ∙ wrong _ _ _ _ (subst (λ (j : ℕ). full || leb 128 j ≡ true) m l))
 
-        pub new-full : full ≡ true → NameRead text P scope pos no_wire full 7 t.place t.after
-        new-full l = crowd (ap (λ (b : Bool). b || leb 128 scope.count) l)
+        pub new-full : full ≡ true → (a : ℕ) → NameRead text P scope pos no_wire full 7 t.place a
+        new-full l a = crowd (ap (λ (b : Bool). b || leb 128 scope.count) l) a
 
         module _ (o : full ≡ false) where
           counted : (b : Bool) → leb 128 scope.count ≡ b → full || leb 128 scope.count ≡ b
           counted b l = ap (λ (b : Bool). b || leb 128 scope.count) o ∙ l
 
-          pub new-crowded : 128 ≤ scope.count → NameRead text P scope pos no_wire full 7 t.place t.after
-          new-crowded l = crowd (counted true (le-leb 128 scope.count l))
+          pub new-crowded : 128 ≤ scope.count → (a : ℕ) → NameRead text P scope pos no_wire full 7 t.place a
+          new-crowded l a = crowd (counted true (le-leb 128 scope.count l)) a
 
           pub new-read : scope.count < 128 → NameRead text P scope pos no_wire full 0 t.place t.after
           unfolding NameRead

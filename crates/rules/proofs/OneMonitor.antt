@@ -1,5 +1,9 @@
 -- Rules 9 to 12 for one monitor: the first two by what is known of its production, the others by its rows. Assumes nothing.
 use mathlib.Core.Path.{◌≡◌, refl, sym, ◌∙◌, ap, subst}
+use Rattle.std.specs.Prelude.{Result, Ok, Err}
+use Rattle.std.proofs.lemmas.Result.{IfOk-weaker}
+use Rattle.refusals.specs.declared.Refusal.{Refusal}
+use Rattle.refusals.specs.declared.Refusal.TheVariants as refusal
 use mathlib.Core.Bool.{Bool, true, false, cond}
 use mathlib.Core.List.{List, ◌++◌}
 use mathlib.Core.Logic.{⊎_elim}
@@ -19,35 +23,35 @@ use Rattle.meaning.proofs.Summary.{Below, impossible-below, hollow-below, possib
 use Rattle.meaning.proofs.RowCount.{rows-summary}
 use Rattle.shape.specs.Walk.{kinds, lefts, rights}
 use Rattle.shape.specs.Judge.{judge_of, shown_judged}
-use Rattle.shape.specs.declared.Judged.{Judged}
-use Rattle.shape.specs.declared.Judged.TheVariants.{Fine, OpenEnd, Fork}
+use Rattle.shape.specs.declared.Fault.{Fault}
+use Rattle.shape.specs.declared.Fault.TheVariants.{OpenEnd, Fork}
 use Rattle.shape.proofs.Laid.{laid-held}
 use Rattle.shape.proofs.Right.{judge-right}
 use Rattle.words.specs.Words.{part0, part1, part2, part3}
 use Rattle.rules.specs.Cells.{at, coded, flag}
-use Rattle.rules.specs.Reads.{fine, faulted}
-use Rattle.rules.specs.Laying.{LetterLists, ExpAt, SomeExp, Stored}
-use Rattle.rules.specs.Monitors.{Arrays, MonitorAt, SomeMonitor, Answers, Ruled, Opens}
-use Rattle.rules.proofs.Placing.{Lays}
+use Rattle.rules.specs.declared.lay.Tables.{Tables}
+use Rattle.rules.specs.declared.lay.Laid.{Laid}
+use Rattle.rules.specs.declared.opening.LetterFault.{LetterFault}
+use Rattle.rules.specs.Laying.{LetterLists, letters_in, ExpAt, SomeExp, Stored, StoredIn}
+use Rattle.rules.specs.Monitors.{Arrays, ArraysIn, MonitorAt, SomeMonitor, letter_fault, Ruled, Opens}
+use Rattle.rules.proofs.Placing.{LaysIn}
 use Rattle.rules.proofs.RowsStand.{rows-laid}
 use Rattle.rules.proofs.TableRows.{numbered-at}
 
 -- ---- rules 11 and 12, asked of rows that were laid
 
-module _ (P : List ℕ) (node row index : ℕ) (T T' : List ℕ) (L L' : LetterLists) (r l : ℕ) (a : Lays P node row index row T T' L L' r l) (j : Judged)
-    (q : shown_judged j ≡ judge_of (kinds T') (lefts T') (rights T') L'.look L'.want row index l) where
+module _ (P : List ℕ) (node row index : ℕ) (A A' : Tables) (x : Laid) (a : LaysIn P node row index row A A' x) (j : Result (Unit {0}) Fault)
+    (q : shown_judged j ≡ judge_of (kinds A'.table) (lefts A'.table) (rights A'.table) A'.look A'.want row index x.letter) where
   -- whatever expression stands there
-  abbrev Rules : (f n : ℕ) → Type 0
-  Rules f n = (c : ℕ) → (e : Exp) → ExpAt P c node row index e → Ruled row index e T T' L L' f n r l
+  abbrev Rules : Result Laid LetterFault → Type 0
+  Rules r = (c : ℕ) → (e : Exp) → ExpAt P c node row index e → Ruled row index e A A' r
 
-  pub ruled-fine : j ≡ Fine → Rules 0 0
-  ruled-fine z c e s = record { stored = a c e s; answers = fine refl (sym q ∙ ap shown_judged z) }
+  pub ruled-fine : (u : Unit {0}) → j ≡ Ok u → Rules (Ok x)
+  ruled-fine u z c e s = record { next = x; stored = a c e s; told = refl; answers = sym (ap shown_judged z) ∙ q }
 
-  pub ruled-open : (n : ℕ) → j ≡ OpenEnd n → Rules 11 n
-  ruled-open n z c e s = record { stored = a c e s; answers = faulted (λ h. omega arith) (sym q ∙ ap shown_judged z) }
-
-  pub ruled-fork : (n : ℕ) → j ≡ Fork n → Rules 12 n
-  ruled-fork n z c e s = record { stored = a c e s; answers = faulted (λ h. omega arith) (sym q ∙ ap shown_judged z) }
+  pub ruled-fault : (f : Fault) → j ≡ Err f → Rules (Err (letter_fault f))
+  ruled-fault (OpenEnd n) z c e s = record { next = x; stored = a c e s; told = tt; answers = sym (ap shown_judged z) ∙ q }
+  ruled-fault (Fork n) z c e s = record { next = x; stored = a c e s; told = tt; answers = sym (ap shown_judged z) ∙ q }
 
 -- ---- what is stored keeps the arrays' lengths
 
@@ -104,16 +108,20 @@ module _ (P : List ℕ) (cell row index : ℕ) where
   cell-inside (c, m, w) = omega (arith, w.production.used, w.within)
 
   -- whatever monitor has the cell
-  abbrev pub OpensAs : (T T' : List ℕ) → (L L' : LetterLists) → (f n r l : ℕ) → Type 0
-  OpensAs T T' L L' f n r l = (c : ℕ) → (m : Exp) → MonitorAt P c cell row index m → Opens row index m T T' L L' f n r l
+  abbrev pub OpensAs : (A A' : Tables) → Result Laid LetterFault → Type 0
+  OpensAs A A' r = (c : ℕ) → (m : Exp) → MonitorAt P c cell row index m → Opens row index m A A' r
+
+  -- a rule is broken
+  abbrev pub Breaks : Tables → Refusal → ℕ → Type 0
+  Breaks A f n = OpensAs A A (Err (record { rule = f; letter = n }))
 
   module _ (k : ℕ) (q : k ≡ part2 (at P (cell + 2))) where
-    pub opens-impossible : (k ≡ 0 → ⊥) → (T : List ℕ) (L : LetterLists) → OpensAs T T L L 9 (k - 1) row index
-    opens-impossible z T L c m w =
+    pub opens-impossible : (k ≡ 0 → ⊥) → (A : Tables) → Breaks A refusal.Impossible (k - 1)
+    opens-impossible z A c m w =
         let e = named (impossible_at m) (size m) k (impossible-below m) (omega (arith, w.space)) (q ∙ w.production.impossible) z in
         record {
-          answers = faulted (λ h. omega arith) (shape-summary m ∙ ap (λ (o : Option ℕ). turned_at 9 o (turned_at 10 (unless_nullable m (hollow_at m)) (rules11and12 (renumbered 0 m)))) e);
-          stored = λ h. absurd (omega arith);
+          answers = sym (shape-summary m ∙ ap (λ (o : Option ℕ). turned_at 9 o (turned_at 10 (unless_nullable m (hollow_at m)) (rules11and12 (renumbered 0 m)))) e);
+          stored = tt;
         }
 
     module _ (z : k ≡ 0) where
@@ -128,24 +136,24 @@ module _ (P : List ℕ) (cell row index : ℕ) where
           ∙ ap (λ (p : Option ℕ). turned_at 10 p (rules11and12 (renumbered 0 m))) e
 
       module _ (b : ℕ) (u : b ≡ part1 (at P (cell + 2))) where
-        pub opens-null : (b ≡ 0 → ⊥) → (T : List ℕ) (L : LetterLists) → OpensAs T T L L 10 0 row index
-        opens-null y T L c m w =
+        pub opens-null : (b ≡ 0 → ⊥) → (A : Tables) → Breaks A refusal.Hollow 0
+        opens-null y A c m w =
             let e = raised (nullable m) b (u ∙ w.production.null) y in
             record {
-              answers = faulted (λ h. omega arith) (at-ten c m w (some 0) (ap (λ (t : Bool). cond t (some 0) (hollow_at m)) e));
-              stored = λ h. absurd (omega arith);
+              answers = sym (at-ten c m w (some 0) (ap (λ (t : Bool). cond t (some 0) (hollow_at m)) e));
+              stored = tt;
             }
 
         module _ (y : b ≡ 0) (h : ℕ) (v : h ≡ part3 (at P (cell + 2))) where
           not_null : (c : ℕ) (m : Exp) → MonitorAt P c cell row index m → unless_nullable m (hollow_at m) ≡ hollow_at m
           not_null c m w = ap (λ (t : Bool). cond t (some 0) (hollow_at m)) (lowered (nullable m) b (u ∙ w.production.null) y)
 
-          pub opens-hollow : (h ≡ 0 → ⊥) → (T : List ℕ) (L : LetterLists) → OpensAs T T L L 10 (h - 1) row index
-          opens-hollow x T L c m w =
+          pub opens-hollow : (h ≡ 0 → ⊥) → (A : Tables) → Breaks A refusal.Hollow (h - 1)
+          opens-hollow x A c m w =
               let e = named (hollow_at m) (size m) h (hollow-below m) (omega (arith, w.space)) (v ∙ w.production.hollow) x in
               record {
-                answers = faulted (λ g. omega arith) (at-ten c m w (some (h - 1)) (not_null c m w ∙ e));
-                stored = λ g. absurd (omega arith);
+                answers = sym (at-ten c m w (some (h - 1)) (not_null c m w ∙ e));
+                stored = tt;
               }
 
           -- ---- both are kept
@@ -165,25 +173,24 @@ module _ (P : List ℕ) (cell row index : ℕ) where
             pub some-exp : SomeMonitor P cell row index → SomeExp P node row index
             some-exp (c, m, w) = (c, m, exp-at c m w)
 
-            module _ (T T' : List ℕ) (L L' : LetterLists) (f n r l : ℕ)
-                (a : (c : ℕ) → (e : Exp) → ExpAt P c node row index e → Ruled row index e T T' L L' f n r l) (arrays : Arrays T L) where
-              pub opens-ruled : OpensAs T T' L L' f n r l
+            module _ (A A' : Tables) (r : Result Laid LetterFault) (a : (c : ℕ) → (e : Exp) → ExpAt P c node row index e → Ruled row index e A A' r) (arrays : ArraysIn A) where
+              pub opens-ruled : OpensAs A A' r
               opens-ruled c m w =
                   let s = exp-at c m w in
                   let t = a c (renumbered 0 m) (numbered-at P c node row index 0 m s) in
+                  let u = a c m s in
                   let room : row + rows (renumbered 0 m) ≤ 1024 = omega (arith, s.room, renumbered-rows 0 m) in
                   let space : index + size (renumbered 0 m) ≤ 256 = omega (arith, s.space, renumbered-size 0 m) in
-                  let laid = rows-laid T L arrays row row index (renumbered 0 m) T' L' t.stored.rows_stored t.stored.letters_stored room space in
-                  let right = judge-right (kinds T') (lefts T') (rights T') L'.look L'.want row index (renumbered 0 m)
-                  (laid-held (kinds T') (lefts T') (rights T') L'.look L'.want (renumbered 0 m) row index laid) (renumbered-ordered 0 m)
+                  let laid = rows-laid A.table (letters_in A) arrays row row index (renumbered 0 m) A'.table (letters_in A') t.stored.rows_stored t.stored.letters_stored room space in
+                  let right = judge-right (kinds A'.table) (lefts A'.table) (rights A'.table) A'.look A'.want row index (renumbered 0 m)
+                  (laid-held (kinds A'.table) (lefts A'.table) (rights A'.table) A'.look A'.want (renumbered 0 m) row index laid) (renumbered-ordered 0 m)
                   (sized-numbered 0 m w.production.sized) (possible m (is-possible c m w)) (omega arith) in
                   record {
-                    answers = subst (Answers f n)
-                        (ap (λ (z : ℕ). judge_of (kinds T') (lefts T') (rights T') L'.look L'.want row index z) t.stored.next_letter
-                        ∙ right ∙ sym (at-ten c m w none (solid c m w)))
-                        t.answers;
-                    stored = λ z. (a c m s).stored;
+                    answers = t.answers ∙ ap (λ (z : ℕ). judge_of (kinds A'.table) (lefts A'.table) (rights A'.table) A'.look A'.want row index z) t.stored.next_letter
+                        ∙ right ∙ sym (at-ten c m w none (solid c m w));
+                    stored = IfOk-weaker r (λ x. x ≡ u.next) (λ x. StoredIn row row index m A A' x)
+                        (λ x e. subst (λ (y : Laid). StoredIn row row index m A A' y) (sym e) u.stored) u.told;
                   }
 
-              pub ruled-arrays : SomeMonitor P cell row index → Arrays T' L'
+              pub ruled-arrays : SomeMonitor P cell row index → ArraysIn A'
               ruled-arrays (c, m, w) = stored-arrays (a c m (exp-at c m w)).stored arrays

@@ -2,6 +2,7 @@
 use mathlib.Core.Path.{◌≡◌, subst}
 use mathlib.Core.List.{List}
 use mathlib.Core.Option.{Option}
+use Rattle.std.specs.Prelude as code
 use Prim.Native.Nat.{ℕ, ◌+◌}
 use native.Mathlib.Omega.{arith}
 use Rattle.meaning.specs.Expression.{Exp}
@@ -24,7 +25,7 @@ module _ (P : List ℕ) (c : ℕ) (l : Depth) (p : Part) where
 
   -- what is joined so far is joined to a part before it
   pub joined-more : (n m : ℕ) (by on : Level → Exp → Exp) (Q : List ℕ) (d : ℕ) (r : Part) → Joined P c l p n by Q d r
-      → (kind : ℕ) (b : Part) (o : Level → Option Exp) → ((R : List ℕ) (e : ℕ) (L : Level) → LevelIs R e l L → OptionIs R e b (o L)) → ((L : Level) (e : Exp) → join (op_of kind) (o L) (by L e) ≡ on L e)
+      → (kind : ℕ) (b : code.Option Part) (o : Level → Option Exp) → ((R : List ℕ) (e : ℕ) (L : Level) → LevelIs R e l L → OptionIs R e b (o L)) → ((L : Level) (e : Exp) → join (op_of kind) (o L) (by L e) ≡ on L e)
       → (R : List ℕ) (g : ℕ) (s : Part) → JoinMade Q d kind b r R g s → m ≡ present b + n → Joined P c l p m on R g s
   joined-more n m by on Q d r j kind b o opt same R g s k e =
       record {

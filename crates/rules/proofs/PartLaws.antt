@@ -1,12 +1,14 @@
 -- The parts of an expression among the words: they stay as they are, and each way of making one. Assumes nothing.
 use mathlib.Core.Path.{◌≡◌, refl, sym, ◌∙◌, ap, subst}
-use mathlib.Core.Bool.{Bool, true, false, cond}
+use mathlib.Core.Bool.{Bool, true, false, cond, false≢true}
+use mir.Val.{bool_byte}
+use Rattle.std.specs.Option.{is_some}
+use Rattle.std.specs.Prelude as code
 use mathlib.Core.List.{List, [], ◌∷◌}
 use mathlib.Core.Logic.{⊎_elim}
 use mathlib.Core.Option.{Option, none, some}
 use Prim.Native.Nat.{ℕ, ◌+◌, ◌<◌, ◌≤◌}
 use native.Mathlib.Omega.{arith}
-use borrow.Author.Tests.{eq-eqb, ne_eqb}
 use lib.Dec.{eqb}
 use lib.ListN.{length, set, length-set}
 use Rattle.meaning.specs.Expression.{Literal, Write, Exp, letter, seq, alt, star, pipe, letters, size, a_letter, as_production}
@@ -40,10 +42,10 @@ within {e = e} x = record {
 }
 
 -- a part that is not none
-pub option-some : (P : List ℕ) (c : ℕ) (p : Part) → (p.node ≡ 0 → ⊥) → (o : Option Exp) × OptionIs P c p o → (e : Exp) × PartIs P c p e
+pub option-some : (P : List ℕ) (c : ℕ) (p : Part) → (o : Option Exp) × OptionIs P c (code.Some p) o → (e : Exp) × PartIs P c p e
 unfolding OptionIs
-option-some P c p n (none, z) = absurd (n z)
-option-some P c p n (some e, x) = (e, x)
+option-some P c p (none, z) = absurd z
+option-some P c p (some e, x) = (e, x)
 
 pub came-node : (P : List ℕ) (c k : ℕ) (ps : List ℕ) (ls : List Literal) (ws : List Write) → CameNode P c k ps ls ws → (0 < k) × (k < c) × (letter_kind (part0 (at P k)) ≡ true)
 unfolding CameNode LetterNode Node
@@ -83,10 +85,12 @@ part_of P c p e d s z =
 pub part-kept : (P : List ℕ) (c : ℕ) (Q : List ℕ) (d : ℕ) → Extends P c Q d → (p : Part) (e : Exp) → PartIs P c p e → PartIs Q d p e
 part-kept P c Q d x p e y = part_of Q d p e (denotes-kept P c Q d x _ e y.denotes) (summed y) y.sized
 
-pub option-kept : (P : List ℕ) (c : ℕ) (Q : List ℕ) (d : ℕ) → Extends P c Q d → (p : Part) (o : Option Exp) → OptionIs P c p o → OptionIs Q d p o
+pub option-kept : (P : List ℕ) (c : ℕ) (Q : List ℕ) (d : ℕ) → Extends P c Q d → (p : code.Option Part) (o : Option Exp) → OptionIs P c p o → OptionIs Q d p o
 unfolding OptionIs
-option-kept P c Q d x p none z = z
-option-kept P c Q d x p (some e) y = part-kept P c Q d x p e y
+option-kept P c Q d x code.None none z = z
+option-kept P c Q d x code.None (some e) z = z
+option-kept P c Q d x (code.Some p) none z = z
+option-kept P c Q d x (code.Some p) (some e) y = part-kept P c Q d x p e y
 
 -- ---- nodes
 
@@ -158,38 +162,43 @@ sized-two e f kind o g h = by-kind (λ k op. SizedLetters (op e f)) both both bo
     both : SizedLetters (seq e f)
     both l i = ⊎_elim (g l) (h l) (append-∈ (letters e) i)
 
-pub present-none : (p : Part) → p.node ≡ 0 → present p ≡ 0
-present-none p z = ap (λ (b : Bool). cond {A = ℕ} b 0 1) (eq-eqb p.node 0 z)
+pub present-none : (o : code.Option Part) → o ≡ code.None → present o ≡ 0
+present-none o z = ap present z
 
-pub present-one : (p : Part) → (p.node ≡ 0 → ⊥) → present p ≡ 1
-present-one p n = ap (λ (b : Bool). cond {A = ℕ} b 0 1) (ne_eqb p.node 0 n)
+pub is-one : (o : code.Option Part) → true ≡ is_some o → o ≡ code.None → ⊥
+is-one o e z = false≢true (sym (e ∙ ap is_some z))
+
+pub is-none : (o : code.Option Part) → false ≡ is_some o → o ≡ code.None
+is-none code.None e = refl
+is-none (code.Some p) e = absurd (false≢true e)
+
+module _ (P : List ℕ) (c kind : ℕ) (right : Part) where
+  pub join-none : JoinMade P c kind code.None right P c right
+  unfolding OptionIs
+  join-none = record { extends = extends-refl P c; few = omega arith; part = alone }
+    where
+      alone : (o : Option Exp) (e : Exp) → OptionIs P c code.None o → PartIs P c right e → PartIs P c right (join (op_of kind) o e)
+      alone none e a b = b
+      alone (some d) e a b = absurd a
 
 module _ (P : List ℕ) (c kind : ℕ) (left right : Part) where
-  pub join-none : left.node ≡ 0 → JoinMade P c kind left right P c right
+  pub join-some : c + 1 ≤ length P → length P ≤ 65535 → Operator kind → left.node < c → right.node < c
+      → (r : Part) → SumOf kind left right c r → JoinMade P c kind (code.Some left) right (set P c (quad kind left.node right.node 0)) (c + 1) r
   unfolding OptionIs
-  join-none z = record { extends = extends-refl P c; few = omega (arith, present-none left z); part = alone }
-    where
-      alone : (o : Option Exp) (e : Exp) → OptionIs P c left o → PartIs P c right e → PartIs P c right (join (op_of kind) o e)
-      alone none e a b = b
-      alone (some d) e a b = absurd (omega (arith, a.positive))
-
-  pub join-some : c + present left ≤ length P → length P ≤ 65535 → Operator kind → (left.node ≡ 0 → ⊥) → left.node < c → right.node < c
-      → (r : Part) → SumOf kind left right c r → JoinMade P c kind left right (set P c (quad kind left.node right.node 0)) (c + 1) r
-  unfolding OptionIs
-  join-some room small k n l m r s = record { extends = x; few = omega (arith, present-one left n); part = made }
+  join-some room small k l m r s = record { extends = x; few = omega arith; part = made }
     where
       word : ℕ
       word = quad kind left.node right.node 0
 
       x : Extends P c (set P c word) (c + 1)
-      x = put-extends P c word (omega (arith, present-one left n))
+      x = put-extends P c word (omega arith)
 
-      made : (o : Option Exp) (e : Exp) → OptionIs P c left o → PartIs P c right e → PartIs (set P c word) (c + 1) r (join (op_of kind) o e)
-      made none e a b = absurd (n a)
+      made : (o : Option Exp) (e : Exp) → OptionIs P c (code.Some left) o → PartIs P c right e → PartIs (set P c word) (c + 1) r (join (op_of kind) o e)
+      made none e a b = absurd a
       made (some d) e a b =
           part_of _ _ r (op_of kind d e)
           (rw s.node
-          (denotes-two P (set P c word) c (c + 1) kind left.node right.node 0 x (put-at P c word (omega (arith, present-one left n))) (omega (arith, present-one left n)) (omega (arith, present-one left n))
+          (denotes-two P (set P c word) c (c + 1) kind left.node right.node 0 x (put-at P c word (omega arith)) (omega arith) (omega arith)
           (kind-small kind k) l (omega arith) m k d e a.denotes b.denotes))
           (s.sums d e (summed a) (summed b)) (sized-two d e kind k a.sized b.sized)
 
@@ -332,6 +341,10 @@ module _ (P : List ℕ) (c k : ℕ) (p : Part) where
 pub flag_small : (b : Bool) → flag b ≤ 1
 flag_small true = omega arith
 flag_small false = omega arith
+
+pub as-flag : (b : Bool) → bool_byte b ≡ flag b
+as-flag true = refl
+as-flag false = refl
 
 pub is-flag : (b : Bool) → eqb (flag b) 1 ≡ b
 is-flag true = refl

@@ -1,16 +1,17 @@
 -- What stands at a node is laid: a letter, a star, or an operator of two operands. Assumes nothing.
 use mathlib.Core.Path.{◌≡◌, refl, sym, ◌∙◌, ap, subst}
 use mathlib.Core.Bool.{Bool, true, false}
-use mathlib.Core.List.{List, [], ◌∷◌, ◌++◌, map}
+use mathlib.Core.List.{List, [], ◌∷◌, ◌++◌}
 use Prim.Native.Nat.{ℕ, suc, ◌+◌, ◌*◌, ◌<◌, ◌≤◌}
 use native.Mathlib.Numerals.{add-one}
 use native.Mathlib.Omega.{arith}
 use lib.ListN.{length, set, length-append}
-use lib.Seq.{sets}
 use Rattle.meaning.specs.Expression.{Letter, Exp, letter, seq, alt, star, pipe, letters, size, rows}
 use Rattle.words.specs.Words.{part0, part1, part2, part3}
 use Rattle.rules.specs.Cells.{at, Link, Node, LetterNode, CameNode, letter_kind, Denotes, tests_on, writes_on, held_at}
-use Rattle.rules.specs.Laying.{row_code, row_codes, with_rows, slot_word, slot_number, two_slots, LetterLists, letter_lists, with_letters, LinksAt, SomeLinks, LetterAt, SomeLetter, BareAt, ExpAt, SomeExp, Stored}
+use Rattle.rules.specs.declared.lay.Tables.{Tables}
+use Rattle.rules.specs.declared.lay.Laid.{Laid}
+use Rattle.rules.specs.Laying.{row_code, row_codes, with_rows, two_slots, LetterLists, letters_in, with_row, with_slots, with_letters, LinksAt, SomeLinks, LetterAt, SomeLetter, BareAt, ExpAt, SomeExp, Stored, StoredIn}
 use Rattle.meaning.proofs.ListLaws.{clash}
 use Rattle.rules.proofs.PartLaws.{came-node, node_of, kind-letter}
 use Rattle.rules.proofs.Overlay.{row_before, rows-two, letters-behind, one-letter}
@@ -46,18 +47,25 @@ module _ (P : List ℕ) (n : ℕ) where
   some-writes i e (c, x, s) = rw e (c, writes_on [] x.writes, writes_at c x s)
 
   -- what is stored of links
-  abbrev PutLinks : (i at : ℕ) → (A A' B B' : List ℕ) → Type 0
-  PutLinks i at A A' B B' =
-      (c : ℕ) → (xs : List Link) → LinksAt P c i xs → (A' ≡ sets A at (map slot_word (two_slots xs))) × (B' ≡ sets B at (map slot_number (two_slots xs)))
+  abbrev PutLinks : (i at : ℕ) → (A A' : Tables) → Type 0
+  PutLinks i at A A' = (c : ℕ) → (xs : List Link) → LinksAt P c i xs → A' ≡ with_slots A at (two_slots xs)
 
-  pub letter-put : (l : ℕ) (A : LetterLists) (C C' D D' : List ℕ) (i j k m : ℕ) → i ≡ part1 (at P n) → j ≡ part2 (at P n) → k ≡ part3 (at P n) → m ≡ held_at P k
-      → PutLinks i (4 * l) A.links C A.numbers D → PutLinks j (4 * l + 2) C C' D D'
-      → (c : ℕ) → (x : Letter) → BareAt P c n x → letter_lists (set A.look l (at P (n + 1))) (set A.want l (at P (n + 2))) (set A.held l m) C' D' ≡ with_letters A l (x ∷ [])
+  -- what is stored of a letter before its links
+  abbrev pub with_head : Tables → (l : ℕ) → (look want held : ℕ) → Tables
+  with_head A l a b h = record A { look = set A.look l a; want = set A.want l b; held = set A.held l h }
+
+  pub letter-put : (l : ℕ) (A B C : Tables) (i j k m : ℕ) → i ≡ part1 (at P n) → j ≡ part2 (at P n) → k ≡ part3 (at P n) → m ≡ held_at P k
+      → PutLinks i (4 * l) (with_head A l (at P (n + 1)) (at P (n + 2)) m) B → PutLinks j (4 * l + 2) B C
+      → (c : ℕ) → (x : Letter) → BareAt P c n x → (C.table ≡ A.table) × (letters_in C ≡ with_letters (letters_in A) l (x ∷ []))
   unfolding LetterNode
-  letter-put l A C C' D D' i j k m e f g h t w c x s =
-      let (p, q) = t c (tests_on [] x.literals) (rw e (tests-at c x s)) in
-      let (u, v) = w c (writes_on [] x.writes) (rw f (writes_at c x s)) in
-      one-letter A l (at P (n + 1)) (at P (n + 2)) m x C C' D D' s.denotes.2 s.denotes.3 (h ∙ ap (held_at P) g ∙ s.denotes.6.mask) p u q v
+  letter-put l A B C i j k m e f g h t w c x s =
+      let p = t c (tests_on [] x.literals) (rw e (tests-at c x s)) in
+      let q = w c (writes_on [] x.writes) (rw f (writes_at c x s)) in
+      let u = q ∙ ap (λ (D : Tables). with_slots D (4 * l + 2) (two_slots (writes_on [] x.writes))) p in (
+        ap (λ (D : Tables). D.table) u,
+        ap letters_in u
+            ∙ one-letter (letters_in A) l (at P (n + 1)) (at P (n + 2)) m x _ _ _ _ s.denotes.2 s.denotes.3 (h ∙ ap (held_at P) g ∙ s.denotes.6.mask) refl refl refl refl,
+      )
 
 -- ---- the productions that a letter came through
 
@@ -209,6 +217,9 @@ module _ (P : List ℕ) (n row index : ℕ) where
   abbrev pub Lays : (up : ℕ) → (T T' : List ℕ) → (L L' : LetterLists) → (r l : ℕ) → Type 0
   Lays up T T' L L' r l = (c : ℕ) → (e : Exp) → ExpAt P c n row index e → Stored row up index e T T' L L' r l
 
+  abbrev pub LaysIn : (up : ℕ) → (A A' : Tables) → Laid → Type 0
+  LaysIn up A A' x = Lays up A.table A'.table (letters_in A) (letters_in A') x.row x.letter
+
 -- ---- a letter
 
 module _ (P : List ℕ) (n k : ℕ) (q : k ≡ part0 (at P n)) (z : letter_kind k ≡ true) where
@@ -227,13 +238,20 @@ module _ (P : List ℕ) (n row index k : ℕ) (q : k ≡ part0 (at P n)) (z : le
   pub some-letter : SomeExp P n row index → SomeLetter P n
   some-letter (c, g, s) = let (x, e, t) = letter_at P n k q z c g s.within s.denotes in (c, x, t)
 
-  pub letter-lays : (up : ℕ) (T T' : List ℕ) (L L' : LetterLists) → ((c : ℕ) → (x : Letter) → LetterAt P c n x → L' ≡ with_letters L index (x ∷ []))
-      → T' ≡ with_rows T row (row_code 0 index 0 up ∷ []) → Lays P n row index up T T' L L' (row + 1) (index + 1)
+  -- the letter is put, and then its row
+  pub letter-lays : (up : ℕ) (A B C : Tables) → ((c : ℕ) → (x : Letter) → LetterAt P c n x → (B.table ≡ A.table) × (letters_in B ≡ with_letters (letters_in A) index (x ∷ [])))
+      → C ≡ with_row B row (row_code 0 index 0 up) → LaysIn P n row index up A C (record { row = row + 1; letter = index + 1 })
   unfolding row_codes letters rows size
-  letter-lays up T T' L L' a b c g s =
+  letter-lays up A B C a b c g s =
       let (x, e, t) = letter_at P n k q z c g s.within s.denotes in
-      subst (λ (g : Exp). Stored row up index g T T' L L' (row + 1) (index + 1)) (sym e)
-      record { rows_stored = b; letters_stored = a c x t; next_row = refl; next_letter = refl }
+      let (p, r) = a c x t in
+      subst (λ (g : Exp). StoredIn row up index g A C (record { row = row + 1; letter = index + 1 })) (sym e)
+      record {
+        rows_stored = ap (λ (D : Tables). D.table) b ∙ ap (λ (T : List ℕ). with_rows T row (row_code 0 index 0 up ∷ [])) p;
+        letters_stored = ap letters_in b ∙ r;
+        next_row = refl;
+        next_letter = refl;
+      }
 
 -- ---- an operator's first operand
 
@@ -272,6 +290,11 @@ module _ (P : List ℕ) (n row index k i : ℕ) (q : k ≡ part0 (at P n)) (b : 
         next_row = omega (arith, t.next_row);
         next_letter = t.next_letter;
       }
+
+  -- the star's row is put behind its body
+  pub star-laid : k ≡ 3 → (up : ℕ) (A B C : Tables) (x : Laid) → LaysIn P i (row + 1) index row A B x → C ≡ with_row B row (row_code 3 (row + 1) 0 up)
+      → LaysIn P n row index up A C x
+  star-laid z up A B C x a e = rw e (star-lays z up A.table B.table _ (letters_in A) (letters_in B) x.row x.letter a refl)
 
 -- ---- an operator of two operands
 
@@ -349,3 +372,13 @@ module _ (P : List ℕ) (n row index k i j : ℕ) (q : k ≡ part0 (at P n)) (b 
           next_row = omega (arith, t.next_row, u.next_row, whole-rows c g s w);
           next_letter = omega (arith, t.next_letter, u.next_letter, whole-size c g s w);
         }
+
+  -- the operator's row is put behind both
+  module _ (A B : Tables) (x : Laid) (a : LaysIn P i (row + 1) index row A B x) where
+    pub second-laid : SomeExp P n row index → Second P n j x.row x.letter
+    second-laid = second-operand A.table B.table (letters_in A) (letters_in B) x.row x.letter a
+
+    pub two-laid : (up : ℕ) (C D : Tables) (y : Laid) → LaysIn P j x.row x.letter row B C y → D ≡ with_row C row (row_code k (row + 1) x.row up)
+        → LaysIn P n row index up A D y
+    two-laid up C D y b e =
+        rw e (two-lays A.table B.table (letters_in A) (letters_in B) x.row x.letter a up C.table _ (letters_in C) y.row y.letter b refl)

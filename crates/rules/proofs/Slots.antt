@@ -1,32 +1,19 @@
 -- Links as two numbers, and the slots that hold them. Assumes nothing.
 use mathlib.Core.Path.{◌≡◌, refl, sym, ◌∙◌, ap, ap₂, subst}
-use mathlib.Core.List.{List, [], ◌∷◌, map}
+use mathlib.Core.List.{List, [], ◌∷◌}
 use mathlib.Core.Option.{Option, none, some}
-use Prim.Native.Nat.{ℕ, ◌+◌, ◌-◌, ◌*◌, ◌%◌, ◌^◌, ◌<◌, ◌≤◌, min}
-use native.Mathlib.Nat.{one-mul}
+use Prim.Native.Nat.{ℕ, ◌+◌, ◌<◌, ◌≤◌}
 use native.Mathlib.Numerals.{add-one}
 use native.Mathlib.Omega.{arith}
 use lib.ListN.{length, set}
-use lib.Pow.{pow_pos, shl_exact}
 use lib.Seq.{sets}
 use borrow.Author.Tests.{eq-eqb, ne_eqb}
 use Rattle.words.specs.Words.{quad, part0, part1, part2, part3}
 use Rattle.rules.specs.Cells.{at, Link, LinkAt, Links}
-use Rattle.rules.specs.Laying.{link_word, ones, link_number, slot_word, slot_number, two_slots, behind, Slot, SlotAt, SomeSlot, LinksAt, SomeLinks}
+use Rattle.rules.specs.declared.lay.Tables.{Tables}
+use Rattle.rules.specs.Laying.{link_word, ones, link_number, slot_word, slot_number, two_slots, behind, with_slots, Slot, SlotAt, SomeSlot, LinksAt, SomeLinks}
 
 -- ---- the numbers of a link
-
-shifted : (w : ℕ) → w < 64 → 1 * 2 ^ w % 2 ^ 64 ≡ 2 ^ w
-shifted w l = shl_exact 1 w 64 (omega arith) (omega arith) ∙ one-mul (2 ^ w)
-
-pub ones-some : (w : ℕ) → w < 64 → 1 ≤ 1 * 2 ^ w % 2 ^ 64
-ones-some w l = rw (shifted w l) (pow_pos w)
-
-pub ones_low : (w : ℕ) → w < 64 → 1 * 2 ^ w % 2 ^ 64 - 1 ≡ ones w
-ones_low w l = let e : min w 64 ≡ w = omega arith in rw (shifted w l, e)
-
-pub ones-high : (w : ℕ) → 64 ≤ w → 18446744073709551615 ≡ ones w
-ones-high w l = let e : min w 64 ≡ 64 = omega arith in rw e
 
 pub number-alone : (s lo w : ℕ) → w ≡ 0 → quad s 2 0 0 ≡ link_word s lo w
 number-alone s lo w e = rw (eq-eqb w 0 e)
@@ -117,9 +104,9 @@ module _ (P : List ℕ) where
   behind-slot i r (c, xs, k) b = (c, first (behind xs), first_slot c r (behind xs) k.within (b c xs k))
 
   -- what is stored
-  module _ (at : ℕ) (A A' B B' : List ℕ) where
+  module _ (at : ℕ) (A A' : Tables) where
     abbrev Two : List (Option Link) → Type 0
-    Two os = (A' ≡ sets A at (map slot_word os)) × (B' ≡ sets B at (map slot_number os))
+    Two os = A' ≡ with_slots A at os
 
     module _ (i r : ℕ) (b : (c : ℕ) → (xs : List Link) → LinksAt P c i xs → Links P c r (behind xs)) where
       pub one-stored : r ≡ 0 → ((c : ℕ) → (o p : Option Link) → SlotAt P c i o → SlotAt P c 0 p → Two (o ∷ p ∷ [])) → (c : ℕ) → (xs : List Link) → LinksAt P c i xs
@@ -137,3 +124,8 @@ module _ (P : List ℕ) where
 
 pub two-set : (L : List ℕ) (at a b x y : ℕ) → a ≡ x → b ≡ y → set (set L at a) (at + 1) b ≡ sets L at (x ∷ y ∷ [])
 two-set L at a b x y e f = rw (add-one at) (ap₂ (λ (m n : ℕ). sets L at (m ∷ n ∷ [])) e f)
+
+pub slots-put : (A : Tables) (at a b k l : ℕ) (o p : Option Link) → a ≡ slot_word o → b ≡ slot_word p → k ≡ slot_number o → l ≡ slot_number p
+    → record A { links = set (set A.links at a) (at + 1) b; numbers = set (set A.numbers at k) (at + 1) l } ≡ with_slots A at (o ∷ p ∷ [])
+slots-put A at a b k l o p e f g h =
+    ap₂ (λ (L N : List ℕ). record A { links = L; numbers = N }) (two-set A.links at a b (slot_word o) (slot_word p) e f) (two-set A.numbers at k l (slot_number o) (slot_number p) g h)

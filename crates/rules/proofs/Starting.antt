@@ -1,12 +1,14 @@
 -- A text's watch: its marks, and its tables by the opened program. Assumes nothing.
 use mathlib.Core.Path.{◌≡◌, refl, sym, ◌∙◌, ap, ap₂}
 use mathlib.Core.Bool.{Bool, true, false, cond}
-use mathlib.Core.List.{List, [], ◌∷◌, ◌++◌, map, map-append, append-nil}
-use Prim.Native.Nat.{ℕ, zero, suc, ◌+◌, ◌<◌, ◌≤◌}
+use mathlib.Core.List.{List, [], ◌∷◌, ◌++◌, map, map-append, append-nil, append_assoc}
+use Prim.Native.Nat.{ℕ, suc, ◌+◌, ◌<◌, ◌≤◌}
 use native.Mathlib.Omega.{arith}
-use lib.Dec.{eqb, eqb→eq}
-use lib.ListN.{length, length-append, length-map, length-drop, get_or, take, drop, replicate, length-replicate, set, length-set}
-use lib.Seq.{sets, set_out, length-take-le, take-suc, get_or-drop}
+use lib.Dec.{eqb}
+use lib.ListN.{length, length-append, length-map, get_or, take, drop, replicate, set, length-set}
+use lib.Seq.{sets, sets-eq, length-take-le, take-suc}
+use borrow.Rule.Slice.PartMut.{put_mid}
+use Rattle.std.proofs.lemmas.List.{drop-drop}
 use Rattle.masks.specs.Masks.{look, want, held}
 use Rattle.meaning.specs.Lists.{each}
 use Rattle.meaning.specs.Expression.{Letter, Exp, letter, seq, alt, star, pipe, letters, size, rows, renumbered}
@@ -15,20 +17,8 @@ use Rattle.words.specs.Words.{part0}
 use Rattle.shape.specs.Walk.{kinds}
 use Rattle.rules.specs.Laying.{row_code, row_codes, slots_of, slot_word, slot_number}
 use Rattle.rules.specs.Monitors.{codes_all, starts_by, Lists, with_monitors}
-use Rattle.meaning.proofs.ListLaws.{is_false}
 use Rattle.rules.specs.Watches.{letters_from}
 use Rattle.rules.proofs.Overlay.{sets_behind}
-
--- ---- marks
-
-replicate_more : (n a : ℕ) → replicate (suc n) a ≡ replicate n a ++ (a ∷ [])
-replicate_more zero a = refl
-replicate_more (suc n) a = ap (λ (s : List ℕ). a ∷ s) (replicate_more n a)
-
-pub marks-more : (L : List ℕ) (i : ℕ) → set (sets L 256 (replicate i 1)) (256 + i) 1 ≡ sets L 256 (replicate (i + 1) 1)
-marks-more L i =
-    sets_behind L 256 (256 + i) (replicate i 1) (1 ∷ []) (replicate (i + 1) 1) (ap (λ (n : ℕ). 256 + n) (sym (length-replicate i 1)))
-    (let e : i + 1 ≡ suc i = omega arith in ap (λ (n : ℕ). replicate n 1) e ∙ replicate_more i 1)
 
 -- ---- the rows of letters
 
@@ -87,8 +77,8 @@ module _ (T P Q : List ℕ) (i n m k : ℕ) (h : i < length T) (is : k ≡ part0
           record { count = u ∙ a.count ∙ ap length (sym e); places = v ∙ a.places ∙ ap (sets (replicate 256 0) 0) (sym e) }
 
   -- the loop goes on
-  pub placed-next : (rows : ℕ) → i < rows → n ≤ i → length P ≡ 256 → (i + 1 ≤ rows) × (m ≤ i + 1) × (length Q ≡ 256) × Placed T Q (i + 1) m
-  placed-next rows r l s = (omega arith, few (eqb k 0) p, long (eqb k 0) q, one_placed)
+  pub placed-next : n ≤ i → length P ≡ 256 → (m ≤ i + 1) × (length Q ≡ 256) × Placed T Q (i + 1) m
+  placed-next l s = (few (eqb k 0) p, long (eqb k 0) q, one_placed)
     where
       few : (b : Bool) → m ≡ cond b (n + 1) n → m ≤ i + 1
       few true u = omega (arith, u)
@@ -100,19 +90,6 @@ module _ (T P Q : List ℕ) (i n m k : ℕ) (h : i < length T) (is : k ≡ part0
 
 pub same-places : (T P : List ℕ) (i j n : ℕ) → Placed T P i n → i ≡ j → P ≡ sets (replicate 256 0) 0 (letters_from 0 (kinds (take j T)))
 same-places T P i j n a e = a.places ∙ ap (λ (m : ℕ). sets (replicate 256 0) 0 (letters_from 0 (kinds (take m T)))) e
-
--- what one row of kind k adds to n letters with the places P
-abbrev Adds : (k n row : ℕ) (P : List ℕ) (m : ℕ) (Q : List ℕ) → Type 0
-Adds k n row P m Q = (m ≡ cond (eqb k 0) (n + 1) n) × (Q ≡ cond (eqb k 0) (set P n row) P)
-
-pub not-placed : (k : ℕ) → (k ≡ 0 → ⊥) → (n row : ℕ) (P : List ℕ) → Adds k n row P n P
-not-placed k z n row P = rw (is_false (eqb k 0) (λ t. z (eqb→eq k 0 t))) (refl, refl)
-
-pub has-place : (k : ℕ) → k ≡ 0 → (n row : ℕ) (P : List ℕ) → Adds k n row P (n + 1) (set P n row)
-has-place k z n row P = rw z (refl, refl)
-
-pub out-of-room : (k : ℕ) → k ≡ 0 → (n row : ℕ) (P : List ℕ) → length P ≤ n → Adds k n row P (n + 1) P
-out-of-room k z n row P h = rw z (refl, sym (set_out P n row h))
 
 -- ---- numbers of letters play no part in the tables
 
@@ -186,11 +163,8 @@ tables-renumbered A i r l ms =
 
 -- ---- values
 
-pub values-more : (L W : List ℕ) (i : ℕ) → i < length W → set (sets L 0 (take i W)) i (get_or W i 0) ≡ sets L 0 (take (i + 1) W)
-values-more L W i h =
-    sets_behind L 0 i (take i W) (get_or W i 0 ∷ []) (take (i + 1) W) (let l = length-take-le i W (omega arith) in omega (arith, l)) (let e : i + 1 ≡ suc i = omega arith in ap (λ (n : ℕ). take n W) e ∙ take-suc W i 0 h)
-
--- the same of those behind the first k
-pub later_more : (L S : List ℕ) (k i : ℕ) → k + i < length S → set (sets L 0 (take i (drop k S))) i (get_or S (k + i) 0) ≡ sets L 0 (take (i + 1) (drop k S))
-later_more L S k i h =
-    ap (set (sets L 0 (take i (drop k S))) i) (sym (get_or-drop k S i 0)) ∙ values-more L (drop k S) i (omega (arith, length-drop k S))
+-- k places from place a on hold zs
+pub copied : (L ys zs : List ℕ) (a k : ℕ) → ys ≡ zs → length zs ≡ k → a + k ≤ length L → put_mid a k L ys ≡ sets L a zs
+copied L ys zs a k e f h =
+    rw (e, sets-eq zs L a (omega arith), sym f)
+    (ap (λ (t : List ℕ). take a L ++ (zs ++ t)) (drop-drop (length zs) a L) ∙ sym (append_assoc (take a L) zs (drop (a + length zs) L)))

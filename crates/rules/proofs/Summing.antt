@@ -10,7 +10,9 @@ use Rattle.meaning.specs.Shape.{nullable}
 use Rattle.meaning.specs.Summary.{counted, or_later, impossible_at, unless_nullable, hollow_at}
 use Rattle.rules.specs.declared.parts.Part.{Part}
 use Rattle.rules.specs.Cells.{coded}
-use Rattle.rules.specs.Parts.{Summed, Later, op_of, Operator, SumOf}
+use Rattle.rules.specs.declared.parts.Operator.{Operator as TheOperator}
+use Rattle.rules.specs.declared.parts.Operator.TheVariants.{Sequence, Choice, Pipe}
+use Rattle.rules.specs.Parts.{operator_number, Summed, Later, op_of, Operator, SumOf}
 
 -- ---- the letter at fault
 
@@ -48,6 +50,16 @@ pub by-kind : (F : ℕ → (Exp → Exp → Exp) → Type 0) → F 1 seq → F 2
 by-kind F a b c kind (inl e) = subst (λ k. F k (op_of k)) (sym e) a
 by-kind F a b c kind (inr (inl e)) = subst (λ k. F k (op_of k)) (sym e) b
 by-kind F a b c kind (inr (inr e)) = subst (λ k. F k (op_of k)) (sym e) c
+
+pub is-operator : (o : TheOperator) → Operator (operator_number o)
+is-operator Sequence = inl refl
+is-operator Choice = inr (inl refl)
+is-operator Pipe = inr (inr refl)
+
+pub no-pipe : (o : TheOperator) → (o ≡ Pipe → ⊥) → operator_number o ≡ 4 → ⊥
+no-pipe Sequence n z = omega arith
+no-pipe Choice n z = omega arith
+no-pipe Pipe n z = n refl
 
 size-two : (e f : Exp) (kind : ℕ) → Operator kind → size (op_of kind e f) ≡ size e + size f
 unfolding size

@@ -6,8 +6,12 @@ use native.Mathlib.Omega.{arith}
 use Rattle.lexer.specs.Tokens.{Placed}
 use Rattle.meaning.specs.Reading.{Expect, sign, to_zero, go, is, choose, not_here, step}
 use Rattle.meaning.specs.Names.{Names}
-use Rattle.rules.specs.declared.tokens.Seen.{Seen}
-use Rattle.rules.specs.Seen.{Sees}
+use Rattle.lexer.specs.declared.Token.{Token as Seen}
+use Rattle.lexer.specs.declared.Kind.TheVariants as kind
+use Rattle.lexer.specs.Shown.{sign_number}
+use Rattle.lexer.specs.declared.Sign.{Sign}
+use Rattle.lexer.specs.declared.Sign.TheVariants as signs
+use Rattle.rules.specs.Seen.{fault_of, Sees}
 use Rattle.rules.specs.Reads.{read_from, fine, faulted, Behind, NumberRead}
 use Rattle.rules.specs.Scopes.{Wide, WidthAt, WidthRead}
 use Rattle.rules.proofs.Stepping.{well, ill, past, on_step, is-on, is-off, not-here, faults, yes, no}
@@ -23,31 +27,34 @@ pub width_is : (text : List ℕ) (pos k most f next width : ℕ) → WidthRead t
 unfolding WidthRead
 width_is text pos k most f next width r z = well r z
 
-module _ (text : List ℕ) (pos : ℕ) (t : Seen) (e : Sees text pos t) (k most : ℕ) (sound : k < 18) (some : 1 ≤ most) where
-  pub width_one : t.kind ≡ k → WidthRead text pos k most 0 t.after 1
+module _ (text : List ℕ) (pos : ℕ) (t : Seen) (e : Sees text pos t) (wanted : Sign) (most : ℕ) (some : 1 ≤ most) where
+  abbrev k : ℕ
+  k = sign_number wanted
+
+  pub width_one : t.kind ≡ kind.Sign wanted → WidthRead text pos k most 0 t.after 1
   unfolding WidthRead
   width_one q =
       fine refl (record {
-        past = past text pos t e (omega arith);
+        past = past text pos t e q tt;
         some = omega arith;
         few = some;
-        leads = λ ns x names then w. on_step text pos t e ns x _ (w.begins _ ∙ yes _ _ _ (is-on text pos t e k sound q));
+        leads = λ ns x names then w. on_step text pos t e ns x _ (w.begins _ ∙ yes _ _ _ (is-on text pos t e wanted q));
       })
 
-  module _ (n : t.kind ≡ k → ⊥) where
-    pub width-none : (t.kind ≡ 8 → ⊥) → WidthRead text pos k most t.fault t.place 1
+  module _ (n : t.kind ≡ kind.Sign wanted → ⊥) where
+    pub width-none : (t.kind ≡ kind.Sign signs.LeftBracket → ⊥) → WidthRead text pos k most (fault_of t.kind) t.place 1
     unfolding WidthRead
     width-none m =
         faulted (faults text pos t e) (λ ns x names then w.
         on_step text pos t e ns x _
-        (w.begins _ ∙ no _ _ _ (is-off text pos t e k sound n) ∙ no _ _ _ (is-off text pos t e 8 (omega arith) m) ∙ not-here text pos t e))
+        (w.begins _ ∙ no _ _ _ (is-off text pos t e wanted n) ∙ no _ _ _ (is-off text pos t e signs.LeftBracket m) ∙ not-here text pos t e))
 
-    module _ (q : t.kind ≡ 8) (f a p h : ℕ) (num : NumberRead text t.after (most - 1) f a p h) where
+    module _ (q : t.kind ≡ kind.Sign signs.LeftBracket) (f a p h : ℕ) (num : NumberRead text t.after (most - 1) f a p h) where
       -- behind `[`
       bracket : (ns : Names) (x : Expect) (names : ℕ → Names) (then : ℕ → Expect) (w : Wide ns x k most names then)
           → read_from text pos ns x ≡ read_from text t.after ns w.high
       bracket ns x names then w =
-          on_step text pos t e ns x _ (w.begins _ ∙ no _ _ _ (is-off text pos t e k sound n) ∙ yes _ _ _ (is-on text pos t e 8 (omega arith) q))
+          on_step text pos t e ns x _ (w.begins _ ∙ no _ _ _ (is-off text pos t e wanted n) ∙ yes _ _ _ (is-on text pos t e signs.LeftBracket q))
 
       pub width-no-number : (f ≡ 0 → ⊥) → WidthRead text pos k most f a 1
       unfolding WidthRead Numeric
@@ -83,7 +90,7 @@ module _ (text : List ℕ) (pos : ℕ) (t : Seen) (e : Sees text pos t) (k most 
           pub width_read : (i d : ℕ) → Behind text b i d (sign k) → WidthRead text pos k most i d (h + 1)
           unfolding WidthRead Behind
           width_read i d (fine o (l, on)) =
-              let u = past text pos t e (omega arith) in
+              let u = past text pos t e q tt in
               let v = number_past text t.after (most - 1) f a p h num z in
               let x = (well zero y).0 in
               let m = high-most in
@@ -94,3 +101,8 @@ module _ (text : List ℕ) (pos : ℕ) (t : Seen) (e : Sees text pos t) (k most 
                 leads = λ ns x names then w. behind-zero ns x names then w ∙ on _ _;
               })
           width_read i d (faulted o on) = faulted o (λ ns x names then w. behind-zero ns x names then w ∙ on _ _)
+
+-- a refusal is the same whatever stands for the width
+pub width-again : (text : List ℕ) (pos k most f next width other : ℕ) → (f ≡ 0 → ⊥) → WidthRead text pos k most f next width → WidthRead text pos k most f next other
+unfolding WidthRead
+width-again text pos k most f next width other n r = faulted n (ill r n)

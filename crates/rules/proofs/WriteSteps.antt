@@ -12,7 +12,15 @@ use Rattle.meaning.specs.Expression.{Write, from_wire, from_number}
 use Rattle.meaning.specs.Answers.{Answer, refused, byte}
 use Rattle.meaning.specs.Reading.{Expect, go, fault, sign, step, choose, unless, at_token, if_number, write_store, write_value, write_more}
 use Rattle.meaning.specs.Names.{Names, Program}
-use Rattle.rules.specs.declared.tokens.Seen.{Seen}
+use Rattle.std.specs.Prelude.{Result, Ok, Err}
+use Rattle.rules.specs.declared.tokens.Misread.{Misread}
+use Rattle.rules.specs.declared.writes.Written.{Written}
+use Rattle.rules.specs.Misreads.{fault_in, at_in, or_in}
+use Rattle.rules.specs.Tasks.{WritesRead}
+use Rattle.rules.proofs.Misreads as refusals
+use Rattle.lexer.specs.declared.Token.{Token as Seen}
+use Rattle.lexer.specs.declared.Kind.TheVariants as kind
+use Rattle.lexer.specs.declared.Sign.TheVariants as signs
 use Rattle.rules.specs.Seen.{seen, Sees}
 use Rattle.words.specs.Words.{part0, part1}
 use Rattle.rules.specs.Cells.{at, Link, link, Links, write_link, writes_on, Cells, Declared}
@@ -122,35 +130,35 @@ module _ (text P : List ℕ) (c h pos : ℕ) (t : Seen) (sees : Sees text pos t)
   abbrev values : Names → Letter → List Write → Answer Program
   values ns x ws = read_from text pos ns (write_value x.within x.literals ws s width)
 
-  pub value-wires : (t.kind ≡ 19 → ⊥) → (f next free m j : ℕ) (Q : List ℕ) → Writes text P t.place c h n i (by_wire text t s width) f next free m j Q → Writes text P pos c h n i values f next free m j Q
+  pub value-wires : ((v : ℕ) → t.kind ≡ kind.Number v → ⊥) → (f next free m j : ℕ) (Q : List ℕ) → Writes text P t.place c h n i (by_wire text t s width) f next free m j Q → Writes text P pos c h n i values f next free m j Q
   unfolding step
   value-wires q f next free m j Q =
       task-from text P pos c h (List Write) (List Write) Letter (WritesAre P c n i) (WritesAre Q free m j) AnyLetter values behind_write (by_wire text t s width) t.place f next free Q (since text pos t sees inside) (λ ns k ws a x o.
       on_step text pos t sees ns (write_value x.within x.literals ws s width) _ ((no_number text pos t sees q _).1 _))
 
-  module _ (q : t.kind ≡ 19) (top : ℕ) (is : top ≡ 2 ^ width - 1) where
-    value-step : (ns : Names) (x : Letter) (ws : List Write) (b : Bool) → leb (2 ^ width) t.value ≡ b
-        → values ns x ws ≡ behind text t (choose b (fault 6 t.place) (go ns (sign 0 (write_more x.within x.literals (ws ++ (from_number s t.value ∷ []))))))
+  module _ (v : ℕ) (q : t.kind ≡ kind.Number v) (top : ℕ) (is : top ≡ 2 ^ width - 1) where
+    value-step : (ns : Names) (x : Letter) (ws : List Write) (b : Bool) → leb (2 ^ width) v ≡ b
+        → values ns x ws ≡ behind text t (choose b (fault 6 t.place) (go ns (sign 0 (write_more x.within x.literals (ws ++ (from_number s v ∷ []))))))
     unfolding step if_number unless at_token
     value-step ns x ws b e =
         on_step text pos t sees ns (write_value x.within x.literals ws s width) _
         (ap (step ns (write_value x.within x.literals ws s width)) (number_is text pos t sees q)
-        ∙ ap (λ (d : Bool). choose d (fault 6 t.place) (go ns (sign 0 (write_more x.within x.literals (ws ++ (from_number s t.value ∷ [])))))) e)
+        ∙ ap (λ (d : Bool). choose d (fault 6 t.place) (go ns (sign 0 (write_more x.within x.literals (ws ++ (from_number s v ∷ [])))))) e)
 
-    pub value-large : top < t.value → Writes text P pos c h n i values 6 t.place c n i P
+    pub value-large : top < v → Writes text P pos c h n i values 6 t.place c n i P
     unfolding choose
     value-large l =
         task-fails text P pos c h (List Write) (List Write) Letter (WritesAre P c n i) (WritesAre P c n i) AnyLetter values behind_write 6 t.place c P refl (λ y. omega arith) (λ ns k ws a x o.
-        value-step ns x ws true (le-leb (2 ^ width) t.value (omega arith)))
+        value-step ns x ws true (le-leb (2 ^ width) v (omega arith)))
 
-    pub value_written : t.value ≤ top → (free m j : ℕ) (Q : List ℕ) → Linked P c n i (link s 0 0 t.value) free m j Q → n ≤ 1
+    pub value_written : v ≤ top → (free m j : ℕ) (Q : List ℕ) → Linked P c n i (link s 0 0 v) free m j Q → n ≤ 1
         → (e next : ℕ) → Behind text t.after e next (sign 0) → Writes text P pos c h n i values e next free m j Q
     unfolding choose
     value_written l free m j Q k one e next end =
-        let p = past text pos t sees (omega arith) in
-        let small : t.value < 2 ^ width = let o = pow_pos width in omega arith in
-        write-ended text P pos t.after c h n i values free m j Q (link s 0 0 t.value) k one e next end p.0 (λ ns d.
-        (from_number s t.value, refl, λ y ws. value-step ns y ws false (lt-leb (2 ^ width) t.value small)))
+        let p = past text pos t sees q tt in
+        let small : v < 2 ^ width = let o = pow_pos width in omega arith in
+        write-ended text P pos t.after c h n i values free m j Q (link s 0 0 v) k one e next end p.0 (λ ns d.
+        (from_number s v, refl, λ y ws. value-step ns y ws false (lt-leb (2 ^ width) v small)))
 
 -- ---- one write
 
@@ -230,10 +238,10 @@ module _ (text P : List ℕ) (pos c h n i : ℕ) where
         record { room = room-on (room_after g.room so.extends so.spent) l o; names = (ns, cells-kept P c Q free so.extends text h ns.declared k); writes = (vs, b) }
 
     module _ (t : Seen) (sees : Sees text next t) where
-      pub so-closed : t.kind ≡ 11 → RestWritten text P pos c h n i 0 t.after free m j Q
+      pub so-closed : t.kind ≡ kind.Sign signs.RightBrace → RestWritten text P pos c h n i 0 t.after free m j Q
       unfolding step
       so-closed q =
-          let p = past text next t sees (omega arith) in
+          let p = past text next t sees q tt in
           let s = so.spent in
           record {
             long = so.extends.long;
@@ -242,17 +250,17 @@ module _ (text P : List ℕ) (pos c h n i : ℕ) where
               spent = record { since = omega (arith, s.since); inside = p.1; few = omega (arith, s.few) };
               reads = λ ns k ws a.
                   let (vs, b, on) = so.reads ns k ws a in
-                  (vs, b, λ x o. on x o ∙ on_step text next t sees ns (behind_write x vs) _ (yes _ _ _ (is-on text next t sees 11 (omega arith) q)));
+                  (vs, b, λ x o. on x o ∙ on_step text next t sees ns (behind_write x vs) _ (yes _ _ _ (is-on text next t sees signs.RightBrace q)));
             });
           }
 
-      pub so-next : next ≤ length text → (t.kind ≡ 11 → ⊥) → (f last end u v : ℕ) (R : List ℕ) → Writes text Q t.place free h m j (by_written text t) f last end u v R
+      pub so-next : next ≤ length text → (t.kind ≡ kind.Sign signs.RightBrace → ⊥) → (f last end u v : ℕ) (R : List ℕ) → Writes text Q t.place free h m j (by_written text t) f last end u v R
           → Task text P pos c h (List Write) (List Write) Letter (WritesAre P c n i) (WritesAre R end u v) AnyLetter rest behind_write f last end R
       unfolding step
       so-next l q f last end u v R w =
           task-then text P pos c h (List Write) (List Write) (List Write) Letter Letter (WritesAre P c n i) (WritesAre Q free m j) (WritesAre R end u v) AnyLetter AnyLetter
           rest behind_write behind_write next free Q so (by_written text t) behind_write (λ x. x) (λ x o. o) t.place (since text next t sees l)
-          (λ ns k x o ws a. on_step text next t sees ns (behind_write x ws) _ (no _ _ _ (is-off text next t sees 11 (omega arith) q))) f last end R w (λ ns x o ws. refl)
+          (λ ns k x o ws a. on_step text next t sees ns (behind_write x ws) _ (no _ _ _ (is-off text next t sees signs.RightBrace q))) f last end R w (λ ns x o ws. refl)
 
 -- a refusal is one whatever would have followed
 pub fails-too : (text P : List ℕ) (pos c h : ℕ) (S T U X : Type 0) (Before : S → Type 0) (After : T → Type 0) (Then : U → Type 0) (good : X → Type 0) (from : Names → X → S → Answer Program)
@@ -309,3 +317,9 @@ module _ (text P : List ℕ) (pos c h : ℕ) (t : Seen) (sees : Sees text pos t)
         task-then text P pos c h (Unit {0}) (List Write) (List Write) Letter Letter (λ s. Unit {0}) (WritesAre Q free m j) (WritesAre R end u v) AnyLetter AnyLetter
         (λ ns x s. read_from text pos ns (write_store x.within x.literals [])) behind_write behind_letter next free Q (well first.outcome z)
         (λ ns x ws. read_from text next ns (behind_write x ws)) behind_letter (λ x. x) (λ x o. o) next (omega arith) (λ ns k x o ws a. refl) e last end R r (λ ns x o ws. refl)
+
+-- a refusal is the same whatever stands for what it has not
+pub all-from : (text P : List ℕ) (pos c h d n i : ℕ) (r : Result Written Misread) (Q : List ℕ)
+    → AllWritten text P pos c h (fault_in r) (at_in (λ w. w.at) r) (or_in (λ w. w.free) d r) (or_in (λ w. w.count) n r) (or_in (λ w. w.link) i r) Q → WritesRead text P pos c h r Q
+all-from text P pos c h d n i (Ok w) Q a = a
+all-from text P pos c h d n i (Err e) Q a = record { long = a.long; outcome = faulted (refusals.some e.why) (ill a.outcome (refusals.some e.why)) }

@@ -1,6 +1,6 @@
 -- The condition of a letter or a define as the code has it, and what the functions that read literals promise (docs/REFERENCE.md,
 -- G8 to G14 and G21). Assumes nothing.
-use Rattle.std.specs.Prelude.{Bool, false, not, ◌&&◌, List, [], ◌++◌, ◌≡◌, ℕ, ◌+◌, ◌*◌, ◌<◌, ◌≤◌, min, eqb, length}
+use Rattle.std.specs.Prelude.{Bool, false, not, ◌&&◌, List, [], ◌++◌, ◌≡◌, ℕ, ◌+◌, ◌*◌, ◌<◌, ◌≤◌, min, eqb, length, Result}
 use Rattle.std.specs.Int.Bits.{bit_or}
 use Rattle.lexer.specs.Tokens.{token_at, rule_words}
 use Rattle.meaning.specs.Expression.{Literal, wire_store, store_tests}
@@ -12,8 +12,10 @@ use Rattle.meaning.specs.Reading.{Context, in_define, in_letter, literal_more, s
 use Rattle.meaning.specs.Names.{Names, Program}
 use Rattle.rules.specs.declared.literals.Condition.{Condition}
 use Rattle.rules.specs.declared.literals.Literals.{Literals}
+use Rattle.rules.specs.declared.tokens.Misread.{Misread}
+use Rattle.rules.specs.Misreads.{fault_in, at_in, or_in}
 use Rattle.rules.specs.Cells.{at, Link, LinkAt, Links, tests_on, held_at, HeldIs, Cells}
-use Rattle.rules.specs.declared.tokens.Seen.{Seen}
+use Rattle.lexer.specs.declared.Token.{Token as Seen}
 use Rattle.rules.specs.Seen.{seen}
 use Rattle.words.specs.Words.{part3}
 use Rattle.rules.specs.Reads.{read_from, Unless}
@@ -85,8 +87,18 @@ pub record Given (text P : List ℕ) (pos c h : ℕ) (q : Condition) : Type 0 wh
 abbrev pub From : Type 0
 From = Names → Context → List Literal → Answer Program
 
+-- what reading literals answers: of a refusal, what there was before stands as it was
+pub record LiteralsTold : Type 0 where
+  pub fault : ℕ
+  pub at : ℕ
+  pub free : ℕ
+  pub condition : Condition
+
+abbrev pub told_literals : (c : ℕ) → Condition → Result Literals Misread → LiteralsTold
+told_literals c q r = record { fault = fault_in r; at = at_in (λ l. l.at) r; free = or_in (λ l. l.free) c r; condition = or_in (λ l. l.condition) q r }
+
 -- Literals more are read, and `literal_more` is expected.
-pub record Added (text : List ℕ) (from : From) (P : List ℕ) (pos c h : ℕ) (q : Condition) (most : ℕ) (r : Literals) (Q : List ℕ) : Type 0 where
+pub record Added (text : List ℕ) (from : From) (P : List ℕ) (pos c h : ℕ) (q : Condition) (most : ℕ) (r : LiteralsTold) (Q : List ℕ) : Type 0 where
   pub extends : Extends P c Q r.free
   pub spent : Spent text pos c r.at r.free
   pub few : q.tests ≤ most → r.condition.tests ≤ most
@@ -99,12 +111,12 @@ Refuses text from P c h q most f place =
     (ns : Names) → Cells text P c h ns.declared → (ls : List Literal) → ConditionIs P c q ls
     → (x : Context) → most ≡ most_of x → from ns x ls ≡ refused f (byte place)
 
-pub record Adds (text : List ℕ) (from : From) (P : List ℕ) (pos c h : ℕ) (q : Condition) (most : ℕ) (r : Literals) (Q : List ℕ) : Type 0 where
+pub record Adds (text : List ℕ) (from : From) (P : List ℕ) (pos c h : ℕ) (q : Condition) (most : ℕ) (r : LiteralsTold) (Q : List ℕ) : Type 0 where
   pub long : length Q ≡ length P
   pub outcome : Unless r.fault (Added text from P pos c h q most r Q) (Refuses text from P c h q most r.fault r.at)
 
 -- the same, and no `&` follows
-pub record AllAdded (text : List ℕ) (from : From) (P : List ℕ) (pos c h : ℕ) (q : Condition) (most : ℕ) (r : Literals) (Q : List ℕ) : Type 0 where
+pub record AllAdded (text : List ℕ) (from : From) (P : List ℕ) (pos c h : ℕ) (q : Condition) (most : ℕ) (r : LiteralsTold) (Q : List ℕ) : Type 0 where
   pub adds : Adds text from P pos c h q most r Q
   pub last : r.fault ≡ 0 → is 4 (token_at rule_words text r.at) ≡ false
 
@@ -159,5 +171,5 @@ abbrev pub by_name : List ℕ → Seen → From
 by_name text t ns x ls = behind text t (literal_name ns x ls (seen text t) (no_exp (seen text t)))
 
 -- The first literal's name pays for no word: three words a byte are left for what follows it.
-abbrev pub Frugal : (tests held f free first c next : ℕ) → Type 0
-Frugal tests held f free first c next = tests ≡ 0 → held ≡ 0 → f ≡ 0 → free + 3 * first ≤ c + 3 * next
+abbrev pub Frugal : (tests held : ℕ) → LiteralsTold → (first c : ℕ) → Type 0
+Frugal tests held r first c = tests ≡ 0 → held ≡ 0 → r.fault ≡ 0 → r.free + 3 * first ≤ c + 3 * r.at

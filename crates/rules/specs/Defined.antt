@@ -1,15 +1,20 @@
 -- What the functions that read defines and productions promise (docs/REFERENCE.md, G6 and G7): a name and the sign behind it, what the name stands for, and
 -- its cell. Assumes nothing.
-use Rattle.std.specs.Prelude.{false, List, ◌≡◌, ℕ, ◌+◌, ◌<◌, ◌≤◌, length, take, drop}
+use Rattle.std.specs.Prelude.{true, false, List, [], Result, ◌≡◌, ℕ, ◌+◌, ◌<◌, ◌≤◌, length, take, drop}
 use Rattle.lexer.specs.Tokens.{token_at, rule_words}
 use Rattle.meaning.specs.Answers.{refused, byte}
-use Rattle.meaning.specs.Reading.{Expect, sign, closing, go, new_name, step}
-use Rattle.meaning.specs.Names.{Meaning, Names, Declaration}
+use Rattle.meaning.specs.Reading.{Expect, sign, closing, go, new_name, step, in_define, literal}
+use Rattle.meaning.specs.Names.{Meaning, Names, Declaration, new_define}
+use Rattle.meaning.specs.Expression.{Literal}
+use Rattle.rules.specs.declared.literals.Condition.{Condition}
+use Rattle.rules.specs.declared.literals.Literals.{Literals}
+use Rattle.rules.specs.declared.tokens.Misread.{Misread}
+use Rattle.rules.specs.Misreads.{fault_in, at_in, or_in}
 use Rattle.rules.specs.declared.declarations.Scope.{Scope}
 use Rattle.words.specs.Words.{part1, part2, part3}
 use Rattle.rules.specs.Cells.{at, Means}
 use Rattle.rules.specs.Reads.{read_from, Unless}
-use Rattle.rules.specs.Conditions.{Extends}
+use Rattle.rules.specs.Conditions.{Extends, ConditionIs}
 use Rattle.rules.specs.Scopes.{Known}
 use Rattle.rules.specs.Tasks.{Task}
 
@@ -42,6 +47,15 @@ abbrev pub Defines : (text P : List ℕ) → (pos c h : ℕ) → (T : Type 0) �
     → (f next free : ℕ) → List ℕ → Type 0
 Defines text P pos c h T After then new f next free Q =
     Task text P pos c h (Unit {0}) T (List ℕ) (λ u. Unit {0}) After (λ s. Unit {0}) (λ ns s u. read_from text pos ns (then s)) (λ s t. closing (new s t)) f next free Q
+
+abbrev pub no_condition : Condition
+no_condition = record { look = 0; want = 0; agrees = true; tests = 0; link = 0; held = 0 }
+
+-- the literals of a define
+abbrev pub DefineRead : (text P : List ℕ) → (pos c h : ℕ) → Result Literals Misread → List ℕ → Type 0
+DefineRead text P pos c h r Q =
+    Defines text P pos c h (List Literal) (ConditionIs Q (or_in (λ l. l.free) c r) (or_in (λ l. l.condition) no_condition r)) (λ s. literal (in_define s) []) new_define
+    (fault_in r) (at_in (λ l. l.at) r) (or_in (λ l. l.free) c r) Q
 
 -- ---- the cell
 

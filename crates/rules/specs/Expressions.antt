@@ -1,13 +1,16 @@
 -- What the reader of expressions promises (docs/REFERENCE.md, G14 to G20). Assumes nothing.
-use Rattle.std.specs.Prelude.{Bool, true, false, List, ◌∷◌, ◌≡◌, ℕ, ◌+◌, ◌*◌, ◌<◌, ◌≤◌, length}
+use Rattle.std.specs.Prelude.{Bool, true, false, List, ◌∷◌, ◌≡◌, ℕ, ◌+◌, ◌*◌, ◌<◌, ◌≤◌, length, Result, Ok, Err}
 use Rattle.lexer.specs.Tokens.{token_at, rule_words}
 use Rattle.meaning.specs.Expression.{Literal, Exp}
 use Rattle.meaning.specs.Answers.{Answer, refused, byte}
 use Rattle.meaning.specs.Reading.{Open, Level, new_level, whole, Expect, operand, operand_more, literal, literal_more, in_letter, step, is, on_level}
 use Rattle.meaning.specs.Names.{Names, Program}
-use Rattle.rules.specs.declared.tokens.Seen.{Seen}
+use Rattle.lexer.specs.declared.Token.{Token as Seen}
 use Rattle.rules.specs.declared.literals.Condition.{Condition}
+use Rattle.rules.specs.declared.tokens.Misread.{Misread}
 use Rattle.rules.specs.declared.expression.Parsed.{Parsed}
+use Rattle.refusals.specs.Refusals.{number_of}
+use Rattle.rules.specs.Misreads.{fault_in, at_in, or_in}
 use Rattle.rules.specs.Seen.{seen}
 use Rattle.rules.specs.Cells.{Cells}
 use Rattle.rules.specs.Reads.{read_from, Unless, Past}
@@ -15,8 +18,36 @@ use Rattle.rules.specs.Conditions.{Extends, Room, Spent, ConditionIs, From, behi
 use Rattle.rules.specs.declared.parts.Part.{Part}
 use Rattle.rules.specs.declared.expression.Depth.{Depth}
 use Rattle.rules.specs.declared.expression.Turn.{Turn}
+use Rattle.rules.specs.declared.expression.Turn.TheVariants.{On, Done}
 use Rattle.rules.specs.Parts.{PartIs, OptionIs, present}
 use Rattle.rules.specs.Tasks.{Fails, Task}
+
+-- what reading an expression answers: of a refusal, there is no part, and what there was before stands as it was
+pub record ParsedTold : Type 0 where
+  pub fault : ℕ
+  pub at : ℕ
+  pub free : ℕ
+  pub part : Part
+
+abbrev pub no_part : Part
+no_part = record { node = 0; letters = 0; nullable = false; impossible = 0; hollow = 0 }
+
+abbrev pub told_parsed : (c : ℕ) → Result Parsed Misread → ParsedTold
+told_parsed c r = record { fault = fault_in r; at = at_in (λ p. p.at) r; free = or_in (λ p. p.free) c r; part = or_in (λ p. p.part) no_part r }
+
+abbrev pub told_part : Parsed → ParsedTold
+told_part p = record { fault = 0; at = p.at; free = p.free; part = p.part }
+
+-- what follows an operand: a level that goes on, or its end
+pub record TurnTold : Type 0 where
+  pub more : Bool
+  pub level : Depth
+  pub parsed : ParsedTold
+
+abbrev pub told_turn : (c : ℕ) → Depth → Result Turn Misread → TurnTold
+told_turn c l (Ok (On f)) = record { more = true; level = f.level; parsed = record { fault = 0; at = f.at; free = f.free; part = no_part } }
+told_turn c l (Ok (Done p)) = record { more = false; level = l; parsed = record { fault = 0; at = p.at; free = p.free; part = p.part } }
+told_turn c l (Err e) = record { more = false; level = l; parsed = record { fault = number_of e.why; at = e.place; free = c; part = no_part } }
 
 -- Words with room, and some names.
 pub record Named (text P : List ℕ) (pos c h : ℕ) : Type 0 where
@@ -38,7 +69,7 @@ AnyOpen o = Unit {0}
 abbrev pub behind_one : Open → Exp → Expect
 behind_one o e = operand_more o e false
 
-abbrev pub Expresses : (text P : List ℕ) → (pos c h : ℕ) → (good : Open → Type 0) → (from : Names → Open → Unit {0} → Answer Program) → Parsed → List ℕ → Type 0
+abbrev pub Expresses : (text P : List ℕ) → (pos c h : ℕ) → (good : Open → Type 0) → (from : Names → Open → Unit {0} → Answer Program) → ParsedTold → List ℕ → Type 0
 Expresses text P pos c h good from r Q =
     Task text P pos c h (Unit {0}) Exp Open (λ s. Unit {0}) (PartIs Q r.free r.part) good from behind_one r.fault r.at r.free Q
 
@@ -63,13 +94,13 @@ abbrev pub behind_literals : List ℕ → ℕ → Names → Open → List Litera
 behind_literals text pos ns o ls = read_from text pos ns (literal_more (in_letter o) ls)
 
 -- the letter stands; its own three words are paid for already
-pub record LetterEnded (text P : List ℕ) (pos c h : ℕ) (q : Condition) (r : Parsed) (Q : List ℕ) : Type 0 where
+pub record LetterEnded (text P : List ℕ) (pos c h : ℕ) (q : Condition) (r : ParsedTold) (Q : List ℕ) : Type 0 where
   pub extends : Extends P c Q r.free
   pub spent : Spent text pos (c + 3) r.at r.free
   pub reads : (ns : Names) → Cells text P c h ns.declared → (ls : List Literal) → ConditionIs P c q ls
       → (e : Exp) × PartIs Q r.free r.part e × ((o : Open) → behind_literals text pos ns o ls ≡ read_from text r.at ns (behind_one o e))
 
-pub record EndsLetter (text P : List ℕ) (pos c h : ℕ) (q : Condition) (r : Parsed) (Q : List ℕ) : Type 0 where
+pub record EndsLetter (text P : List ℕ) (pos c h : ℕ) (q : Condition) (r : ParsedTold) (Q : List ℕ) : Type 0 where
   pub long : length Q ≡ length P
   pub outcome : Unless r.fault (LetterEnded text P pos c h q r Q)
       (Fails text P c h (List Literal) Open (ConditionIs P c q) AnyOpen (behind_literals text pos) r.fault r.at)
@@ -98,7 +129,7 @@ pub record Closes (text : List ℕ) (pos : ℕ) : Type 0 where
   pub bars : is 15 (token_at rule_words text pos) ≡ false
 
 -- the level that a turn comes to
-pub record Goes (text P : List ℕ) (pos c : ℕ) (p : Part) (l : Depth) (r : Turn) (Q : List ℕ) : Type 0 where
+pub record Goes (text P : List ℕ) (pos c : ℕ) (p : Part) (l : Depth) (r : TurnTold) (Q : List ℕ) : Type 0 where
   pub further : pos < r.parsed.at
   pub inside : r.parsed.at ≤ length text
   pub few : r.parsed.free + pending r.level + 3 * pos ≤ c + pending l + 3 * r.parsed.at
@@ -107,7 +138,7 @@ pub record Goes (text P : List ℕ) (pos c : ℕ) (p : Part) (l : Depth) (r : Tu
       × ((ns : Names) → (o : Open) → read_from text pos ns (operand_more (on_level o L) e b) ≡ read_from text r.parsed.at ns (operand (on_level o M)))
 
 -- the level ends: it is one part
-pub record Ends (text P : List ℕ) (pos c : ℕ) (p : Part) (l : Depth) (r : Parsed) (Q : List ℕ) : Type 0 where
+pub record Ends (text P : List ℕ) (pos c : ℕ) (p : Part) (l : Depth) (r : ParsedTold) (Q : List ℕ) : Type 0 where
   pub here : r.at ≡ pos
   pub few : r.free ≤ c + pending l
   pub closes : Closes text pos
@@ -121,12 +152,12 @@ Stops text P pos c p l f place =
     (L : Level) → LevelIs P c l L → (e : Exp) → PartIs P c p e → (b : Bool) → (b ≡ false → is 3 (token_at rule_words text pos) ≡ false)
     → (ns : Names) → (o : Open) → read_from text pos ns (operand_more (on_level o L) e b) ≡ refused f (byte place)
 
-pub data TurnIs (text P : List ℕ) (pos c : ℕ) (p : Part) (l : Depth) (r : Turn) (Q : List ℕ) : Type 0 where
+pub data TurnIs (text P : List ℕ) (pos c : ℕ) (p : Part) (l : Depth) (r : TurnTold) (Q : List ℕ) : Type 0 where
   goes : r.more ≡ true → r.parsed.fault ≡ 0 → Goes text P pos c p l r Q → TurnIs text P pos c p l r Q
   ends : r.more ≡ false → r.parsed.fault ≡ 0 → Ends text P pos c p l r.parsed Q → TurnIs text P pos c p l r Q
   stops : r.more ≡ false → (r.parsed.fault ≡ 0 → ⊥) → Stops text P pos c p l r.parsed.fault r.parsed.at → TurnIs text P pos c p l r Q
 
-pub record Turned (text P : List ℕ) (pos c : ℕ) (p : Part) (l : Depth) (r : Turn) (Q : List ℕ) : Type 0 where
+pub record Turned (text P : List ℕ) (pos c : ℕ) (p : Part) (l : Depth) (r : TurnTold) (Q : List ℕ) : Type 0 where
   pub extends : (r.parsed.fault ≡ 0 → Extends P c Q r.parsed.free)
   pub long : length Q ≡ length P
   pub turn : TurnIs text P pos c p l r Q
@@ -152,7 +183,7 @@ abbrev pub behind_whole : Open → Exp → Expect
 behind_whole o e = operand_more o e true
 
 -- What reading a whole expression promises: it ends before the token that closes it.
-pub record Whole (text P : List ℕ) (pos c h levels : ℕ) (r : Parsed) (Q : List ℕ) : Type 0 where
+pub record Whole (text P : List ℕ) (pos c h levels : ℕ) (r : ParsedTold) (Q : List ℕ) : Type 0 where
   pub task : Task text P pos c h (Unit {0}) Exp Open (λ s. Unit {0}) (PartIs Q r.free r.part) (Outer levels) (λ ns o s. read_from text pos ns (operand o)) behind_whole
       r.fault r.at r.free Q
   pub closes : r.fault ≡ 0 → Closes text r.at
@@ -180,7 +211,7 @@ in_parens n l ls = record { name = n; level = new_level; outer = l ∷ ls }
 abbrev pub around : (name : List ℕ) → Level → List Level → Open
 around n l ls = record { name = n; level = l; outer = ls }
 
-pub record ClosesBy (text : List ℕ) (p r : Parsed) : Type 0 where
+pub record ClosesBy (text : List ℕ) (p r : ParsedTold) : Type 0 where
   pub part : r.part ≡ p.part
   pub free : r.free ≡ p.free
   pub past : Past text p.at r.at
@@ -191,10 +222,10 @@ abbrev pub Unclosed : List ℕ → (pos f place : ℕ) → Type 0
 Unclosed text pos f place =
     (ns : Names) → (n : List ℕ) → (l : Level) → (ls : List Level) → (e : Exp) → read_from text pos ns (operand_more (in_parens n l ls) e true) ≡ refused f (byte place)
 
-abbrev pub ClosedBy : List ℕ → Parsed → Parsed → Type 0
+abbrev pub ClosedBy : List ℕ → ParsedTold → ParsedTold → Type 0
 ClosedBy text p r = Closes text p.at → Unless r.fault (ClosesBy text p r) (Unclosed text p.at r.fault r.at)
 
 -- What reading an operand promises.
-pub record Operand (text P : List ℕ) (pos c h levels : ℕ) (r : Parsed) (Q : List ℕ) : Type 0 where
+pub record Operand (text P : List ℕ) (pos c h levels : ℕ) (r : ParsedTold) (Q : List ℕ) : Type 0 where
   pub task : Expresses text P pos c h (Within levels) (λ ns o s. read_from text pos ns (operand o)) r Q
   pub further : r.fault ≡ 0 → pos < r.at

@@ -7,6 +7,8 @@ use Rattle.meaning.specs.Expression.{Letter, Exp, letter, seq, alt, star, pipe, 
 use Rattle.masks.specs.Masks.{look, want, held}
 use Rattle.meaning.specs.Table.{Row, Kind, is_letter, is_seq, is_alt, is_star, is_pipe}
 use Rattle.words.specs.Words.{quad}
+use Rattle.rules.specs.declared.lay.Tables.{Tables}
+use Rattle.rules.specs.declared.lay.Laid.{Laid}
 use Rattle.rules.specs.Cells.{Link, tests_on, writes_on, LinkAt, Links, LetterNode, Denotes}
 
 -- ---- rows
@@ -104,6 +106,17 @@ pub record LetterLists : Type 0 where
 abbrev pub letter_lists : (look want held links numbers : List ℕ) → LetterLists
 letter_lists a b h c d = record { look = a; want = b; held = h; links = c; numbers = d }
 
+abbrev pub letters_in : Tables → LetterLists
+letters_in A = letter_lists A.look A.want A.held A.links A.numbers
+
+-- with a row stored
+abbrev pub with_row : Tables → (r : ℕ) → RowCode → Tables
+with_row A r x = record A { table = with_rows A.table r (x ∷ []) }
+
+-- with slots stored from index i on
+abbrev pub with_slots : Tables → (i : ℕ) → List (Option Link) → Tables
+with_slots A i os = record A { links = sets A.links i (map slot_word os); numbers = sets A.numbers i (map slot_number os) }
+
 -- with letters stored from index l on, four slots a letter
 abbrev pub with_letters : LetterLists → (l : ℕ) → List Letter → LetterLists
 with_letters A l xs =
@@ -162,3 +175,6 @@ pub record Stored (row up index : ℕ) (e : Exp) (T T' : List ℕ) (L L' : Lette
   pub letters_stored : L' ≡ with_letters L index (letters e)
   pub next_row : r ≡ row + rows e
   pub next_letter : l ≡ index + size e
+
+abbrev pub StoredIn : (row up index : ℕ) → Exp → (A A' : Tables) → Laid → Type 0
+StoredIn row up index e A A' x = Stored row up index e A.table A'.table (letters_in A) (letters_in A') x.row x.letter

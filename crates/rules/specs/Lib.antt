@@ -2,8 +2,10 @@
 -- watch answers is said in sheet's Demands. All else says what the inner functions have and promise.
 pub mod Seen
 pub mod Cells
+pub mod Misreads
 pub mod Reads
 pub mod Conditions
+pub mod NamesFound
 pub mod Picks
 pub mod Tasks
 pub mod Written

@@ -1,19 +1,28 @@
 -- The monitors of a text by their productions' cells, and what opening them answers (docs/REFERENCE.md, X9, X10 and S3): a refusal by one of the rules 8 to
 -- 12, or a table with their rows and letters one behind the other. Assumes nothing.
-use Rattle.std.specs.Prelude.{List, [], ◌∷◌, ◌++◌, map, ◌≡◌, ℕ, suc, ◌+◌, ◌*◌, ◌≤◌, length, get_or}
+use Rattle.std.specs.Prelude.{Option, Some, None, Result, Ok, Err, IfOk, List, [], ◌∷◌, ◌++◌, map, ◌≡◌, ℕ, suc, ◌+◌, ◌*◌, ◌≤◌, length, get_or}
 use Rattle.std.proofs.lemmas.List.Edits.{sets}
 use Rattle.refusals.specs.Numbers.{long_run}
+use Rattle.refusals.specs.Refusals.{number_of}
+use Rattle.refusals.specs.declared.Refusal.TheVariants as refusal
 use Rattle.meaning.specs.Lists.{each, total}
-use Rattle.meaning.specs.Answers.{Answer, refused, letter_of}
+use Rattle.meaning.specs.Answers.{Answer, refused, byte, letter_of}
 use Rattle.meaning.specs.Expression.{Exp, letters, size, rows, renumbered}
 use Rattle.meaning.specs.ShapeTests.{Shape, accepted, turned_away, shape}
 use Rattle.meaning.specs.Opening.{Opened, too_long, misshapen}
 use Rattle.shape.specs.Walk.{kinds, lefts, rights}
 use Rattle.shape.specs.Judge.{judge_of}
+use Rattle.shape.specs.declared.Fault.{Fault}
+use Rattle.shape.specs.declared.Fault.TheVariants.{OpenEnd, Fork}
 use Rattle.rules.specs.Cells.{ProductionAt}
-use Rattle.rules.specs.Reads.{Unless}
-use Rattle.rules.specs.Laying.{RowCode, row_codes, with_rows, LetterLists, with_letters, Stored}
-use Rattle.rules.specs.declared.opening.Opening.{Opening}
+use Rattle.rules.specs.Laying.{RowCode, row_codes, with_rows, LetterLists, letters_in, with_letters, StoredIn}
+use Rattle.rules.specs.declared.lay.Tables.{Tables}
+use Rattle.rules.specs.declared.lay.Laid.{Laid}
+use Rattle.rules.specs.declared.opening.LetterFault.{LetterFault}
+use Rattle.rules.specs.declared.opening.Starts.{Starts}
+use Rattle.rules.specs.declared.Counts.{Counts}
+use Rattle.rules.specs.declared.Refused.{Refused}
+use Rattle.rules.specs.declared.Refused.TheVariants.{AtByte, AtLetter}
 
 -- ---- monitors
 
@@ -35,11 +44,10 @@ SomeMonitors P M count = (c : ℕ) × (ms : List Exp) × MonitorsAre P c M count
 abbrev pub FewLetters : (P M : List ℕ) → (count : ℕ) → Type 0
 FewLetters P M count = (c : ℕ) × (ms : List Exp) × MonitorsAre P c M count ms × (total size ms ≤ 256)
 
--- rule 8, X9: "the first monitor that takes the letters, counted from monitor 0 on, beyond 256", or all of them
-unfoldable pub FirstLong : (ms : List Exp) → (count r : ℕ) → Type 0
-FirstLong ms count r =
-    ((r ≡ count) → (total size ms ≤ 256) × ((o : Answer Opened) → too_long 0 0 ms o ≡ o))
-    × ((r ≡ count → ⊥) → (o : Answer Opened) → too_long 0 0 ms o ≡ refused long_run (letter_of r 0))
+-- rule 8, X9: "the first monitor that takes the letters, counted from monitor 0 on, beyond 256", or none
+unfoldable pub FirstLong : (ms : List Exp) → Option ℕ → Type 0
+FirstLong ms None = (total size ms ≤ 256) × ((o : Answer Opened) → too_long 0 0 ms o ≡ o)
+FirstLong ms (Some i) = (o : Answer Opened) → too_long 0 0 ms o ≡ refused long_run (letter_of i 0)
 
 -- ---- one monitor
 
@@ -52,6 +60,9 @@ pub record Arrays (T : List ℕ) (L : LetterLists) : Type 0 where
   pub links : length L.links ≡ 1024
   pub numbers : length L.numbers ≡ 1024
 
+abbrev pub ArraysIn : Tables → Type 0
+ArraysIn A = Arrays A.table (letters_in A)
+
 -- a monitor's cell, and where its rows and letters go: no monitor has more than four rows a letter
 pub record MonitorAt (P : List ℕ) (c cell row index : ℕ) (m : Exp) : Type 0 where
   pub within : c ≤ length P
@@ -62,19 +73,27 @@ pub record MonitorAt (P : List ℕ) (c cell row index : ℕ) (m : Exp) : Type 0 
 abbrev pub SomeMonitor : List ℕ → (cell row index : ℕ) → Type 0
 SomeMonitor P cell row index = (c : ℕ) × (m : Exp) × MonitorAt P c cell row index m
 
--- no fault, or the rule's number and the letter's
-abbrev pub Answers : (fault letter : ℕ) → Shape → Type 0
-Answers f n s = Unless f (s ≡ accepted) (s ≡ turned_away f n)
+-- what an answer says: the rule's number and the letter's, or no fault
+abbrev pub shown_shape : Result Laid LetterFault → Shape
+shown_shape (Ok x) = accepted
+shown_shape (Err e) = turned_away (number_of e.rule) e.letter
+
+-- rules 11 and 12 are broken
+abbrev pub letter_fault : Fault → LetterFault
+letter_fault (OpenEnd n) = record { rule = refusal.OpenEnd; letter = n }
+letter_fault (Fork n) = record { rule = refusal.Fork; letter = n }
 
 -- it is stored, and rules 11 and 12 are asked of its rows
-pub record Ruled (row index : ℕ) (e : Exp) (T T' : List ℕ) (L L' : LetterLists) (f n r l : ℕ) : Type 0 where
-  pub stored : Stored row row index e T T' L L' r l
-  pub answers : Answers f n (judge_of (kinds T') (lefts T') (rights T') L'.look L'.want row index l)
+pub record Ruled (row index : ℕ) (e : Exp) (A A' : Tables) (r : Result Laid LetterFault) : Type 0 where
+  pub next : Laid
+  pub stored : StoredIn row row index e A A' next
+  pub told : IfOk r (λ x. x ≡ next)
+  pub answers : shown_shape r ≡ judge_of (kinds A'.table) (lefts A'.table) (rights A'.table) A'.look A'.want row index next.letter
 
 -- X10: rules 9 to 12, and what is stored where they are kept
-pub record Opens (row index : ℕ) (m : Exp) (T T' : List ℕ) (L L' : LetterLists) (f n r l : ℕ) : Type 0 where
-  pub answers : Answers f n (shape (renumbered 0 m))
-  pub stored : f ≡ 0 → Stored row row index m T T' L L' r l
+pub record Opens (row index : ℕ) (m : Exp) (A A' : Tables) (r : Result Laid LetterFault) : Type 0 where
+  pub answers : shown_shape r ≡ shape (renumbered 0 m)
+  pub stored : IfOk r (λ x. StoredIn row row index m A A' x)
 
 -- ---- all monitors
 
@@ -98,6 +117,9 @@ pub record Lists : Type 0 where
 abbrev pub lists : (table : List ℕ) → LetterLists → (own firsts : List ℕ) → Lists
 lists T L S F = record { table = T; letters_of = L; own = S; firsts = F }
 
+abbrev pub lists_in : Tables → Starts → Lists
+lists_in A S = lists A.table (letters_in A) S.own S.firsts
+
 -- with monitors stored: the next one has the number i, the row r and the first letter l
 abbrev pub with_monitors : Lists → (i r l : ℕ) → List Exp → Lists
 with_monitors A i r l ms =
@@ -110,12 +132,15 @@ pub record AllStored (ms : List Exp) (A A' : Lists) (r l : ℕ) : Type 0 where
   pub row_count : r ≡ total rows ms
   pub letter_count : l ≡ total size ms
 
+-- what a refusal of the code says
+abbrev pub refused_as : {T : Type 0} → Refused → Answer T
+refused_as (AtByte n p) = refused (number_of n) (byte p)
+refused_as (AtLetter n m l) = refused (number_of n) (letter_of m l)
+
 -- By rules that leave an answer as it is, or put a refusal in its place.
-unfoldable pub OpenedBy : (Answer Opened → Answer Opened) → List Exp → (A A' : Lists) → Opening → Type 0
-OpenedBy rules ms A A' r =
-    Unless r.fault
-    (((o : Answer Opened) → rules o ≡ o) × AllStored ms A A' r.rows r.letters)
-    ((o : Answer Opened) → rules o ≡ refused r.fault (letter_of r.monitor r.letter))
+unfoldable pub OpenedBy : (Answer Opened → Answer Opened) → List Exp → (A A' : Lists) → Result Counts Refused → Type 0
+OpenedBy rules ms A A' (Ok n) = ((o : Answer Opened) → rules o ≡ o) × AllStored ms A A' n.rows n.letters
+OpenedBy rules ms A A' (Err e) = (o : Answer Opened) → rules o ≡ refused_as e
 
 -- X10: 9 to 12
 abbrev pub by_shapes : List Exp → Answer Opened → Answer Opened

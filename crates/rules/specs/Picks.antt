@@ -6,7 +6,8 @@ use Rattle.lexer.specs.Tokens.{Placed}
 use Rattle.meaning.specs.Expression.{Literal, Exp}
 use Rattle.meaning.specs.Reading.{Step, fault, known, no_pair, no_literals, no_exp}
 use Rattle.meaning.specs.Names.{Names, Meaning, an_input, a_store, a_define, a_production}
-use Rattle.rules.specs.declared.tokens.Seen.{Seen}
+use Rattle.lexer.specs.declared.Token.{Token as Seen}
+use Rattle.lexer.specs.declared.Kind.TheVariants as kinds
 use Rattle.rules.specs.Seen.{seen}
 use Rattle.rules.specs.Cells.{Means, Cells}
 use Rattle.rules.specs.Reads.{Unless}
@@ -34,7 +35,7 @@ bytes_of text t = spelt text t.place t.after
 
 -- the token is a name of the kind
 pub record Picked (text P : List ℕ) (c : ℕ) (ns : Names) (t : Seen) (kind cell : ℕ) : Type 0 where
-  pub name : t.kind ≡ 18
+  pub name : t.kind ≡ kinds.Name
   pub meaning : Meaning
   pub found : lookup (bytes_of text t) ns.declared ≡ some meaning
   pub of : kind_number meaning ≡ kind

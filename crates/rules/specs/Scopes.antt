@@ -1,6 +1,6 @@
 -- What has been declared while a text is read, as the code has it, and what the functions that read declarations promise (docs/REFERENCE.md,
 -- G3 to G5, N1 to N3 and N6). Assumes nothing.
-use Rattle.std.specs.Prelude.{Bool, true, false, List, map, ◌≡◌, ℕ, suc, ◌+◌, ◌-◌, ◌<◌, ◌≤◌, length, take, drop}
+use Rattle.std.specs.Prelude.{Bool, true, false, List, map, ◌≡◌, ℕ, suc, ◌+◌, ◌-◌, ◌<◌, ◌≤◌, length, take, drop, Result}
 use Rattle.std.proofs.Math.Option.{none}
 use Rattle.lexer.specs.Bytes.{lookup}
 use Rattle.lexer.specs.Signs.{left_bracket}
@@ -12,6 +12,8 @@ use Rattle.meaning.specs.Reading.{Expect, statement, to_zero, Step, go, fault, i
 use Rattle.meaning.specs.Names.{Limit, Names}
 use Rattle.rules.specs.declared.declarations.Scope.{Scope}
 use Rattle.rules.specs.declared.declarations.Declared.{Declared}
+use Rattle.rules.specs.declared.tokens.Misread.{Misread}
+use Rattle.rules.specs.Misreads.{fault_in, at_in, or_in}
 use Rattle.words.specs.Words.{quad, part0, part1, part2, part3}
 use Rattle.rules.specs.Cells.{at, Cells}
 use Rattle.rules.specs.Reads.{read_from, Unless, Past, placed}
@@ -45,8 +47,18 @@ pub record Ready (text P S : List ℕ) (pos c : ℕ) (scope : Scope) : Type 0 wh
   pub values : length S ≡ 24
   pub names : (ns : Names) × Known text P S c scope ns
 
+-- what reading a declaration answers: of a refusal, what there was before stands as it was
+pub record DeclaredTold : Type 0 where
+  pub fault : ℕ
+  pub at : ℕ
+  pub free : ℕ
+  pub scope : Scope
+
+abbrev pub told_declared : (c : ℕ) → Scope → Result Declared Misread → DeclaredTold
+told_declared c s r = record { fault = fault_in r; at = at_in (λ d. d.at) r; free = or_in (λ d. d.free) c r; scope = or_in (λ d. d.scope) s r }
+
 -- A declaration is read from a state on, and a statement is expected.
-pub record Added (text : List ℕ) (state : Expect) (P S : List ℕ) (pos c : ℕ) (scope : Scope) (r : Declared) (Q T : List ℕ) : Type 0 where
+pub record Added (text : List ℕ) (state : Expect) (P S : List ℕ) (pos c : ℕ) (scope : Scope) (r : DeclaredTold) (Q T : List ℕ) : Type 0 where
   pub extends : Extends P c Q r.free
   pub spent : Spent text pos c r.at r.free
   pub further : pos < r.at
@@ -56,7 +68,7 @@ pub record Added (text : List ℕ) (state : Expect) (P S : List ℕ) (pos c : �
 abbrev pub Refuses : (text : List ℕ) → Expect → (P S : List ℕ) → (pos c : ℕ) → Scope → (f place : ℕ) → Type 0
 Refuses text state P S pos c scope f place = (ns : Names) → Known text P S c scope ns → read_from text pos ns state ≡ refused f (byte place)
 
-pub record Declares (text : List ℕ) (state : Expect) (P S : List ℕ) (pos c : ℕ) (scope : Scope) (r : Declared) (Q T : List ℕ) : Type 0 where
+pub record Declares (text : List ℕ) (state : Expect) (P S : List ℕ) (pos c : ℕ) (scope : Scope) (r : DeclaredTold) (Q T : List ℕ) : Type 0 where
   pub words : length Q ≡ length P
   pub values : length T ≡ length S
   pub outcome : Unless r.fault (Added text state P S pos c scope r Q T) (Refuses text state P S pos c scope r.fault r.at)

@@ -1,12 +1,15 @@
 -- What the functions promise that read a text's statements (docs/REFERENCE.md, G2): its declarations, and then its monitors up to the end.
 -- Assumes nothing.
-use Rattle.std.specs.Prelude.{List, [], map, ◌≡◌, ℕ, ◌≤◌, length, take, drop}
+use Rattle.std.specs.Prelude.{Result, MatchResult, List, [], map, ◌≡◌, ℕ, ◌≤◌, length, take, drop}
 use Rattle.lexer.specs.Tokens.{tokens, rule_words}
 use Rattle.meaning.specs.Expression.{Exp}
 use Rattle.meaning.specs.Answers.{Answer, value, refused, byte}
 use Rattle.meaning.specs.Reading.{Expect, statement, monitor_name, monitor_more, text_end, read_on}
 use Rattle.meaning.specs.Names.{Names, no_names, Program, program_of}
+use Rattle.refusals.specs.Refusals.{number_of}
 use Rattle.rules.specs.declared.declarations.Declared.{Declared}
+use Rattle.rules.specs.declared.statements.Reading.{Reading}
+use Rattle.rules.specs.declared.tokens.Misread.{Misread}
 use Rattle.rules.specs.Cells.{Cells}
 use Rattle.rules.specs.Reads.{read_from, Unless, Past}
 use Rattle.rules.specs.Conditions.{Room}
@@ -56,10 +59,10 @@ pub record Declaring (text P S : List ℕ) (d : Declared) (state : Expect) : Typ
   pub reads : read_from text 0 no_names statement ≡ read_from text d.at names state
 
 -- all declarations, and what stands behind `monitor` is expected
-pub record Stated (text P S : List ℕ) (r : Declared) (Q T : List ℕ) : Type 0 where
+pub record Stated (text P S : List ℕ) (r : Result Declared Misread) (Q T : List ℕ) : Type 0 where
   pub words : length Q ≡ length P
   pub values : length T ≡ length S
-  pub outcome : Unless r.fault (Declaring text Q T r (monitor_name [])) (read_from text 0 no_names statement ≡ refused r.fault (byte r.at))
+  pub outcome : MatchResult r (λ d. Declaring text Q T d (monitor_name [])) (λ e. read_from text 0 no_names statement ≡ refused (number_of e.why) (byte e.place))
 
 -- ---- a text
 
@@ -77,6 +80,7 @@ pub record Says (text : List ℕ) (free wires stores limits count : ℕ) (Q T M 
   pub bounds : take limits (drop 16 T) ≡ map limit_word program.limits
   pub few_limits : limits ≤ 8
 
-unfoldable pub TextRead : (text : List ℕ) → (f at free wires stores limits count : ℕ) → (Q T M : List ℕ) → Type 0
-TextRead text f at free wires stores limits count Q T M =
-    Unless f (Says text free wires stores limits count Q T M) (read_on no_names statement (tokens rule_words text) ≡ refused f (byte at))
+unfoldable pub TextRead : (text : List ℕ) → Result Reading Misread → (Q T M : List ℕ) → Type 0
+TextRead text r Q T M =
+    MatchResult r (λ s. Says text s.free s.wires s.stores s.limits s.count Q T M)
+    (λ e. read_on no_names statement (tokens rule_words text) ≡ refused (number_of e.why) (byte e.place))

@@ -1,10 +1,13 @@
 -- What a function of the reader promises, whatever it reads. It begins with something of type S that the code has (`Before`) and ends with something of type T that it then has
 -- (`After`); the rest of what reading keeps is x, which the code does not look at but for what is `good`. Assumes nothing.
-use Rattle.std.specs.Prelude.{false, List, [], ◌≡◌, ℕ, ◌<◌, ◌≤◌, length}
+use Rattle.std.specs.Prelude.{false, List, [], ◌≡◌, ℕ, ◌<◌, ◌≤◌, length, Result}
 use Rattle.meaning.specs.Expression.{Literal, Write, a_letter}
 use Rattle.meaning.specs.Answers.{Answer, refused, byte}
 use Rattle.meaning.specs.Reading.{Open, Expect, write_store, write_more, operand_more}
 use Rattle.meaning.specs.Names.{Names, Program}
+use Rattle.rules.specs.declared.tokens.Misread.{Misread}
+use Rattle.rules.specs.declared.writes.Written.{Written}
+use Rattle.rules.specs.Misreads.{fault_in, at_in, or_in}
 use Rattle.rules.specs.Cells.{Links, writes_on, Cells}
 use Rattle.rules.specs.Reads.{read_from, Unless}
 use Rattle.rules.specs.Conditions.{Extends, Room, Spent}
@@ -68,3 +71,16 @@ abbrev pub AllWritten : (text P : List ℕ) → (pos c h f next free m j : ℕ) 
 AllWritten text P pos c h f next free m j Q =
     Task text P pos c h (Unit {0}) (List Write) Letter (λ s. Unit {0}) (WritesAre Q free m j) AnyLetter
     (λ ns x s. read_from text pos ns (write_store x.within x.literals [])) behind_letter f next free Q
+
+-- the same of what the code answers; of a refusal, what there was before stands as it was
+abbrev pub WriteRead : (text P : List ℕ) → (pos c h n i : ℕ) → (from : Names → Letter → List Write → Answer Program) → Result Written Misread → List ℕ → Type 0
+WriteRead text P pos c h n i from r Q =
+    Writes text P pos c h n i from (fault_in r) (at_in (λ w. w.at) r) (or_in (λ w. w.free) c r) (or_in (λ w. w.count) n r) (or_in (λ w. w.link) i r) Q
+
+abbrev pub RestRead : (text P : List ℕ) → (pos c h n i : ℕ) → Result Written Misread → List ℕ → Type 0
+RestRead text P pos c h n i r Q =
+    RestWritten text P pos c h n i (fault_in r) (at_in (λ w. w.at) r) (or_in (λ w. w.free) c r) (or_in (λ w. w.count) n r) (or_in (λ w. w.link) i r) Q
+
+abbrev pub WritesRead : (text P : List ℕ) → (pos c h : ℕ) → Result Written Misread → List ℕ → Type 0
+WritesRead text P pos c h r Q =
+    AllWritten text P pos c h (fault_in r) (at_in (λ w. w.at) r) (or_in (λ w. w.free) c r) (or_in (λ w. w.count) 0 r) (or_in (λ w. w.link) 0 r) Q

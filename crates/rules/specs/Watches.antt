@@ -1,20 +1,21 @@
 -- What `open` answers with (docs/REFERENCE.md, W1): the counts and a watch, or a refusal and an empty watch. Assumes nothing.
-use Rattle.std.specs.Prelude.{false, cond, List, [], ◌∷◌, map, ℕ, suc, ◌+◌, ◌*◌, eqb, length, take, replicate}
+use Rattle.std.specs.Prelude.{Result, Ok, Err, false, cond, List, [], ◌∷◌, map, ℕ, suc, ◌+◌, ◌*◌, eqb, length, take, replicate}
 use Rattle.std.proofs.lemmas.List.Edits.{sets}
 use Rattle.meaning.specs.Answers as meaning
 use Rattle.meaning.specs.Lists.{each, member}
 use Rattle.meaning.specs.Expression.{Letter, letters}
 use Rattle.meaning.specs.Names.{Limit}
-use Rattle.meaning.specs.Opening.{Opened, Counts}
+use Rattle.meaning.specs.Opening as meaning_opening
+use Rattle.meaning.specs.Opening.{Opened}
 use Rattle.shape.specs.Walk.{kinds}
 use Rattle.windows.specs.Windows.{opened_windows}
 use Rattle.rules.specs.Cells.{flag}
 use Rattle.rules.specs.Laying.{letter_lists}
-use Rattle.rules.specs.Monitors.{Lists, lists, with_monitors}
+use Rattle.rules.specs.Monitors.{Lists, lists, with_monitors, refused_as}
 pub use Rattle.rules.specs.Scopes.{limit_word}
 use Rattle.rules.specs.declared.Watch.{Watch}
-use Rattle.rules.specs.declared.Outcome.{Outcome}
-use Rattle.rules.specs.declared.Outcome.TheVariants.{Open, AtByte, AtLetter}
+use Rattle.rules.specs.declared.Counts.{Counts}
+use Rattle.rules.specs.declared.Refused.{Refused}
 
 -- no rows, no letters, no monitors
 abbrev pub no_lists : Lists
@@ -74,13 +75,16 @@ watch_by A r l m w vs C W =
       windows = W;
     }
 
+-- a watch of nothing
+abbrev pub empty_watch : Watch
+empty_watch = watch_by no_lists 0 0 0 0 [] none_counted no_windows
+
 -- the watch of an opened text; X13: "A refusal opens no watch"
 unfoldable pub watch_of : meaning.Answer Opened → Watch
 watch_of (meaning.value o) = watch_by (with_monitors no_lists 0 0 0 o.monitors) o.row_count o.letter_count (length o.monitors) o.wires o.initial (counted_of o) (windows_of o)
-watch_of (meaning.refused n p) = watch_by no_lists 0 0 0 0 [] none_counted no_windows
+watch_of (meaning.refused n p) = empty_watch
 
 -- What an answer of the code says; W1: "Opening a text gives a watch and both counts (S3), or a refusal"
-abbrev pub shown_outcome : Outcome → meaning.Answer Counts
-shown_outcome (Open r l) = meaning.value (record { rows = r; letters = l })
-shown_outcome (AtByte n p) = meaning.refused n (meaning.byte p)
-shown_outcome (AtLetter n m l) = meaning.refused n (meaning.letter_of m l)
+abbrev pub shown_outcome : Result Counts Refused → meaning.Answer meaning_opening.Counts
+shown_outcome (Ok n) = meaning.value (record { rows = n.rows; letters = n.letters })
+shown_outcome (Err e) = refused_as e

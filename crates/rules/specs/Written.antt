@@ -5,7 +5,7 @@ use Rattle.meaning.specs.Answers.{Answer}
 use Rattle.refusals.specs.Numbers.{oversize}
 use Rattle.meaning.specs.Reading.{go, sign, known, unless, no_pair, no_literals, no_exp, write_more, written_store}
 use Rattle.meaning.specs.Names.{Names, Program}
-use Rattle.rules.specs.declared.tokens.Seen.{Seen}
+use Rattle.lexer.specs.declared.Token.{Token as Seen}
 use Rattle.rules.specs.Seen.{seen}
 use Rattle.rules.specs.Conditions.{behind}
 use Rattle.rules.specs.Tasks.{Letter}

@@ -1,13 +1,17 @@
 // Declarations of wires and stores: a name that must be new, its width, and its cell among the words.
 ghost use Rattle.std.specs.Prelude.{List, ℕ, ◌+◌, ◌<◌, ◌≤◌, length};
+ghost use Rattle.lexer.specs.Shown.{sign_number};
 ghost use Rattle.meaning.specs.Reading.{input_name, store_name};
 ghost use Rattle.rules.specs.Cells.{Declared as SomeNames};
-ghost use Rattle.rules.specs.Scopes.{Ready, Declares, NameRead, NameWritten, WidthRead};
+ghost use Rattle.rules.specs.NamesFound.{name_number};
+ghost use Rattle.rules.specs.Misreads.{fault_in, at_in, or_in};
+ghost use Rattle.rules.specs.Scopes.{Ready, told_declared, Declares, NameRead, NameWritten, WidthRead};
 
 use super::literals::largest;
-use super::names::{STORE, WIRE, find};
-use super::tokens::{NAME, number_to, see, sign, to_zero};
-use lexer::{EQUALS, LEFT_BRACKET, SEMICOLON};
+use super::names::{NameKind, find};
+use super::tokens::{Misread, number_to, see, sign, to_zero};
+use lexer::{Kind, Sign};
+use refusals::Refusal;
 use words::quad;
 
 // What has been declared: the cell of the last name, how many names there are, the wires that are taken, the stores, and the
@@ -21,19 +25,17 @@ pub(crate) struct Scope {
     pub(crate) limits: usize,
 }
 
-// A declaration more, and where to read on; or a refusal.
+// A declaration more, and where to read on.
 #[derive(Drop)]
 pub(crate) struct Declared {
-    pub(crate) fault: u8,
     pub(crate) at: usize,
     pub(crate) free: usize,
     pub(crate) scope: Scope,
 }
 
-// A name that is not declared, from its first byte to behind its last; or a refusal, at the token.
+// A name that is not declared, from its first byte to behind its last.
 #[derive(Drop)]
 pub(crate) struct NewName {
-    pub(crate) fault: u8,
     pub(crate) place: usize,
     pub(crate) after: usize,
 }
@@ -46,121 +48,76 @@ pub(crate) fn new_name(
     at: usize,
     wireless: bool,
     full: bool,
-) -> NewName
+) -> Result<NewName, Misread>
     requires { SomeNames text.now words.now scope.last }
-    ensures { NameRead text.now words.now scope at wireless full result.fault result.place result.after }
+    ensures { NameRead text.now words.now scope at wireless full (fault_in result) (at_in (λ n. n.place) result) (or_in (λ n. n.after) 0 result) }
 {
     let t = see(text, at);
-    if t.kind != NAME {
-        return NewName {
-            fault: t.fault,
-            place: t.place,
-            after: t.after,
-        };
+    if t.kind != Kind::Name {
+        return Err(Misread::misplaced(t));
     }
-    if find(text, words, scope.last, t.place, t.after) != 0 {
-        return NewName {
-            fault: 5,
-            place: t.place,
-            after: t.after,
-        };
+    if find(text, words, scope.last, t.place, t.after).is_some() {
+        return Err(Misread::refused(t, Refusal::Twice));
     }
     if wireless {
-        return NewName {
-            fault: 6,
-            place: t.place,
-            after: t.after,
-        };
+        return Err(Misread::refused(t, Refusal::Oversize));
     }
-    if full {
-        return NewName {
-            fault: 7,
-            place: t.place,
-            after: t.after,
-        };
+    if full || 128 <= scope.count {
+        return Err(Misread::refused(t, Refusal::Crowded));
     }
-    if 128 <= scope.count {
-        return NewName {
-            fault: 7,
-            place: t.place,
-            after: t.after,
-        };
-    }
-    NewName {
-        fault: 0,
+    Ok(NewName {
         place: t.place,
         after: t.after,
-    }
+    })
 }
 
 // The cell of a wire or a store is written.
 fn write_name(
     words: &mut [u64],
     free: usize,
-    kind: usize,
+    kind: NameKind,
     last: usize,
     place: usize,
     size: usize,
     a: usize,
     b: usize,
 )
-    requires { (free + 2 ≤ length words.old) × (kind < 65536) × (last < 65536) × (place < 65536) × (size < 65536) × (a < 65536) × (b < 65536) }
-    ensures { NameWritten words.old free kind last place size a b words.new }
+    requires { (free + 2 ≤ length words.old) × (last < 65536) × (place < 65536) × (size < 65536) × (a < 65536) × (b < 65536) }
+    ensures { NameWritten words.old free (name_number kind) last place size a b words.new }
 {
-    words[free] = quad(kind, last, place, size);
+    words[free] = quad(kind.number(), last, place, size);
     words[free + 1] = quad(a, b, 0, 0);
 }
 
-// A width and where to read on; or a refusal.
+// A width and where to read on.
 #[derive(Drop)]
 struct Width {
-    fault: u8,
     at: usize,
     width: usize,
 }
 
-// The sign k, or `[h:0]` and then the sign: a width of 1, or of h + 1, which is at most `most`.
-fn width_to(text: &[u8], at: usize, k: u8, most: usize) -> Width
-    requires { (k < 18) × (1 ≤ most) × (most ≤ 64) }
-    ensures { WidthRead text.now at k most result.fault result.at result.width }
+// A sign, or `[h:0]` and then the sign: a width of 1, or of h + 1, which is at most `most`.
+fn width_to(text: &[u8], at: usize, wanted: Sign, most: usize) -> Result<Width, Misread>
+    requires { (1 ≤ most) × (most ≤ 64) }
+    ensures { WidthRead text.now at (sign_number wanted) most (fault_in result) (at_in (λ w. w.at) result) (or_in (λ w. w.width) 1 result) }
 {
     let t = see(text, at);
-    if t.kind == k {
-        return Width {
-            fault: 0,
+    if t.kind == Kind::Sign(wanted) {
+        return Ok(Width {
             at: t.after,
             width: 1,
-        };
+        });
     }
-    if t.kind != LEFT_BRACKET {
-        return Width {
-            fault: t.fault,
-            at: t.place,
-            width: 1,
-        };
+    if t.kind != Kind::Sign(Sign::LeftBracket) {
+        return Err(Misread::misplaced(t));
     }
-    let high = number_to(text, t.after, (most - 1) as u64);
-    if high.fault != 0 {
-        return Width {
-            fault: high.fault,
-            at: high.at,
-            width: 1,
-        };
-    }
-    let zero = to_zero(text, high.at);
-    if zero.fault != 0 {
-        return Width {
-            fault: zero.fault,
-            at: zero.at,
-            width: 1,
-        };
-    }
-    let end = sign(text, zero.at, k);
-    Width {
-        fault: end.fault,
-        at: end.at,
+    let high = number_to(text, t.after, (most - 1) as u64)?;
+    let zero = to_zero(text, high.after)?;
+    let end = sign(text, zero, wanted)?;
+    Ok(Width {
+        at: end,
         width: high.value as usize + 1,
-    }
+    })
 }
 
 // What stands behind `input`.
@@ -170,50 +127,32 @@ pub(crate) fn input(
     scope: Scope,
     free: usize,
     at: usize,
-) -> Declared
+) -> Result<Declared, Misread>
     requires { (S : List ℕ) × Ready text.now words.old S at free scope }
-    ensures { (S : List ℕ) → Declares text.now input_name words.old S at free scope result words.new S }
+    ensures { (S : List ℕ) → Declares text.now input_name words.old S at free scope (told_declared free scope result) words.new S }
 {
-    let name = new_name(text, words, scope, at, 64 <= scope.wires, false);
-    if name.fault != 0 {
-        return Declared {
-            fault: name.fault,
-            at: name.place,
-            free,
-            scope,
-        };
-    }
-    let wide = width_to(text, name.after, SEMICOLON, 64 - scope.wires);
-    if wide.fault != 0 {
-        return Declared {
-            fault: wide.fault,
-            at: wide.at,
-            free,
-            scope,
-        };
-    }
+    let name = new_name(text, words, scope, at, 64 <= scope.wires, false)?;
+    let wide = width_to(text, name.after, Sign::Semicolon, 64 - scope.wires)?;
     write_name(
         words,
         free,
-        WIRE,
+        NameKind::Wire,
         scope.last,
         name.place,
         name.after - name.place,
         scope.wires,
         wide.width,
     );
-    Declared {
-        fault: 0,
+    Ok(Declared {
         at: wide.at,
         free: free + 2,
         scope: Scope {
             last: free,
             count: scope.count + 1,
             wires: scope.wires + wide.width,
-            stores: scope.stores,
-            limits: scope.limits,
+            ..scope
         },
-    }
+    })
 }
 
 // What stands behind `internal`. The store's first value goes behind those that there are.
@@ -224,68 +163,34 @@ pub(crate) fn store(
     scope: Scope,
     free: usize,
     at: usize,
-) -> Declared
+) -> Result<Declared, Misread>
     requires { Ready text.now words.old kept.old at free scope }
-    ensures { Declares text.now store_name words.old kept.old at free scope result words.new kept.new }
+    ensures { Declares text.now store_name words.old kept.old at free scope (told_declared free scope result) words.new kept.new }
 {
     let stores = scope.stores;
-    let name = new_name(text, words, scope, at, false, 16 <= stores);
-    if name.fault != 0 {
-        return Declared {
-            fault: name.fault,
-            at: name.place,
-            free,
-            scope,
-        };
-    }
-    let wide = width_to(text, name.after, EQUALS, 64);
-    if wide.fault != 0 {
-        return Declared {
-            fault: wide.fault,
-            at: wide.at,
-            free,
-            scope,
-        };
-    }
-    let first = number_to(text, wide.at, largest(wide.width));
-    if first.fault != 0 {
-        return Declared {
-            fault: first.fault,
-            at: first.at,
-            free,
-            scope,
-        };
-    }
-    let end = sign(text, first.at, SEMICOLON);
-    if end.fault != 0 {
-        return Declared {
-            fault: end.fault,
-            at: end.at,
-            free,
-            scope,
-        };
-    }
+    let name = new_name(text, words, scope, at, false, 16 <= stores)?;
+    let wide = width_to(text, name.after, Sign::Equals, 64)?;
+    let first = number_to(text, wide.at, largest(wide.width))?;
+    let end = sign(text, first.after, Sign::Semicolon)?;
     kept[stores] = first.value;
     write_name(
         words,
         free,
-        STORE,
+        NameKind::Store,
         scope.last,
         name.place,
         name.after - name.place,
         stores,
         wide.width,
     );
-    Declared {
-        fault: 0,
-        at: end.at,
+    Ok(Declared {
+        at: end,
         free: free + 2,
         scope: Scope {
             last: free,
             count: scope.count + 1,
-            wires: scope.wires,
             stores: stores + 1,
-            limits: scope.limits,
+            ..scope
         },
-    }
+    })
 }

@@ -1,58 +1,43 @@
 // Expressions: a letter, a production's name or a parenthesis is an operand; `*`, `@`, `,` and `||` join operands.
-ghost use Rattle.std.specs.Prelude.{◌≡◌, ℕ, ◌+◌, ◌<◌, ◌≤◌, length, List, [], true, false, not, ◌&&◌, eqb};
+ghost use Rattle.std.specs.Prelude.{◌≡◌, IfOk, IfSome, MatchOption, None, ℕ, ◌+◌, ◌<◌, ◌≤◌, length, List, [], true, false};
+ghost use Rattle.lexer.specs.declared.Kind.TheVariants as kind;
+ghost use Rattle.lexer.specs.declared.Sign.TheVariants as signs;
 ghost use Rattle.meaning.specs.Expression.{Exp};
 ghost use Rattle.meaning.specs.Reading.{Level, piped, sequenced, whole};
 ghost use Rattle.rules.specs.Parts.{PartIs, present, LetterMade};
-ghost use Rattle.rules.specs.Expressions.{LevelIs, pending, Joined, Starring, Starred, Behind, Turned, ClosedBy, Operand, Whole, Named, AnyOpen, by_simple, Expresses, LetterGiven, LetterBegun, EndsLetter};
+ghost use Rattle.rules.specs.Expressions.{told_part, told_parsed, told_turn, LevelIs, pending, Joined, Starring, Starred, Behind, Turned, ClosedBy, Operand, Whole, Named, AnyOpen, by_simple, Expresses, LetterGiven, LetterBegun, EndsLetter};
 ghost use Rattle.rules.specs.Seen.{Sees};
-ghost use Rattle.words.specs.Words.{part0};
-ghost use Rattle.rules.specs.Cells.{at};
+ghost use Rattle.rules.specs.Cells.{ProductionAt};
+ghost use Rattle.rules.specs.NamesFound.{cell_of, production_at};
 ghost use Rattle.rules.specs.Conditions.{ConditionIs};
 
-use super::literals::{Condition, Literals, literal_name, more_literals, negated};
-use super::names::{PRODUCTION, find};
-use super::parts::{
-    CHOICE, Made, PIPE, Part, SEQUENCE, join, letter_part, production_part, starred,
-};
-use super::tokens::{NAME, Seen, see};
+use super::literals::{Condition, literal_name, more_literals, negated};
+use super::names::{NameKind, find};
+use super::parts::{Made, Operator, Part, join, letter_part, production_part, starred};
+use super::tokens::{Misread, see};
 use super::writes::writes;
-use lexer::{AT, BANG, COMMA, DOUBLE_BAR, LEFT_BRACE, LEFT_PAREN, RIGHT_PAREN, STAR};
+use lexer::{Kind, Sign, Token};
+use refusals::Refusal;
 use words::part0;
 
-// An expression that was read, its words, and where to read on; or a refusal.
+// An expression that was read, its words, and where to read on.
 #[derive(Drop)]
 pub(crate) struct Parsed {
-    pub(crate) fault: u8,
     pub(crate) at: usize,
     pub(crate) free: usize,
     pub(crate) part: Part,
 }
 
-// No expression.
-fn nothing() -> Part
-    ensures { result.node ≡ 0 }
-{
-    Part {
-        node: 0,
-        letters: 0,
-        nullable: false,
-        impossible: 0,
-        hollow: 0,
-    }
-}
-
 // A letter whose literals are read, with the writes whose last link is `link`.
 fn put_letter(words: &mut [u64], free: usize, at: usize, q: Condition, link: usize) -> Parsed
     requires { (free + 3 ≤ length words.old) × (length words.old ≤ 65535) × (1 ≤ free) × (q.link < free) × (link < free) × (q.held < free) }
-    ensures { (result.fault ≡ 0) × (result.at ≡ at) × LetterMade words.old free q link words.new result.free result.part }
+    ensures { (result.at ≡ at) × LetterMade words.old free q link words.new result.free result.part }
 {
     let m = letter_part(words, free, q, link);
-    let part = m.part;
     Parsed {
-        fault: 0,
         at,
         free: m.free,
-        part,
+        part: m.part,
     }
 }
 
@@ -64,25 +49,16 @@ fn letter_end(
     free: usize,
     at: usize,
     q: Condition,
-) -> Parsed
+) -> Result<Parsed, Misread>
     requires { LetterGiven text.now words.old at free last q }
-    ensures { EndsLetter text.now words.old at free last q result words.new }
+    ensures { EndsLetter text.now words.old at free last q (told_parsed free result) words.new }
 {
     let t = see(text, at);
-    if t.kind != LEFT_BRACE {
-        return put_letter(words, free, at, q, 0);
+    if t.kind != Kind::Sign(Sign::LeftBrace) {
+        return Ok(put_letter(words, free, at, q, 0));
     }
-    let w = writes(text, words, last, free, t.after);
-    if w.fault != 0 {
-        let part = nothing();
-        return Parsed {
-            fault: w.fault,
-            at: w.at,
-            free: w.free,
-            part,
-        };
-    }
-    put_letter(words, w.free, w.at, q, w.link)
+    let w = writes(text, words, last, free, t.after)?;
+    Ok(put_letter(words, w.free, w.at, q, w.link))
 }
 
 // A letter of which some literals are read: those that follow, and its writes.
@@ -93,22 +69,12 @@ fn letter_rest(
     free: usize,
     at: usize,
     q: Condition,
-) -> Parsed
+) -> Result<Parsed, Misread>
     requires { LetterBegun text.now words.old at free last q }
-    ensures { EndsLetter text.now words.old at free last q result words.new }
+    ensures { EndsLetter text.now words.old at free last q (told_parsed free result) words.new }
 {
-    let m = more_literals(text, words, last, free, at, q, 2);
-    if m.fault != 0 {
-        let part = nothing();
-        return Parsed {
-            fault: m.fault,
-            at: m.at,
-            free: m.free,
-            part,
-        };
-    }
-    let c = m.condition;
-    letter_end(text, words, last, m.free, m.at, c)
+    let m = more_literals(text, words, last, free, at, q, 2)?;
+    letter_end(text, words, last, m.free, m.at, m.condition)
 }
 
 // A condition of no literals.
@@ -125,73 +91,57 @@ pub(crate) fn no_literals() -> Condition
     }
 }
 
-// A letter whose first literal is read, or refused.
-fn letter_from(text: &[u8], words: &mut [u64], last: usize, l: Literals) -> Parsed
-    requires { l.fault ≡ 0 → LetterBegun text.now words.old l.at l.free last l.condition }
-    ensures { (length words.new ≡ length words.old) × ((l.fault ≡ 0 → ⊥) → (result.fault ≡ l.fault) × (result.at ≡ l.at)) × (l.fault ≡ 0 → EndsLetter text.now words.old l.at l.free last l.condition result words.new) }
+// The expression of the production that was found, if it is one.
+fn production_found(words: &[u64], found: Option<usize>) -> Option<Part>
+    requires { (cell_of found < length words.now) × (production_at words.now (cell_of found) ≡ true → (c : ℕ) × (e : Exp) × (c ≤ length words.now) × ProductionAt words.now c (cell_of found) e) × IfSome found (λ cell. cell ≡ 0 → ⊥) }
+    ensures { MatchOption result (production_at words.now (cell_of found) ≡ false)
+        (λ part. (production_at words.now (cell_of found) ≡ true) × ((c : ℕ) → (e : Exp) → ProductionAt words.now c (cell_of found) e → PartIs words.now c part e)) }
 {
-    if l.fault != 0 {
-        let part = nothing();
-        return Parsed {
-            fault: l.fault,
-            at: l.at,
-            free: l.free,
-            part,
-        };
+    let cell = found?;
+    if part0(words[cell]) != NameKind::Production.number() {
+        return None;
     }
-    let c = l.condition;
-    letter_rest(text, words, last, l.free, l.at, c)
-}
-
-// Whether a cell is that of a production.
-fn is_production(words: &[u64], cell: usize) -> bool
-    requires { cell < length words.now }
-    ensures { result ≡ (not (eqb cell 0) && eqb (part0 (at words.now cell)) 3) }
-{
-    if cell == 0 {
-        return false;
-    }
-    part0(words[cell]) == PRODUCTION
+    Some(production_part(words, cell))
 }
 
 // An operand that is no parenthesis, of which `t` is the first token: a letter, or a production's name.
-fn simple_operand(text: &[u8], words: &mut [u64], last: usize, free: usize, t: Seen) -> Parsed
-    requires { Named text.now words.old t.place free last × ((pos : ℕ) × Sees text.now pos t) × (t.kind ≡ 6 → ⊥) }
-    ensures { Expresses text.now words.old t.place free last AnyOpen (by_simple text.now t) result words.new × (result.fault ≡ 0 → t.place < result.at) }
+fn simple_operand(
+    text: &[u8],
+    words: &mut [u64],
+    last: usize,
+    free: usize,
+    t: Token,
+) -> Result<Parsed, Misread>
+    requires { Named text.now words.old t.place free last × ((pos : ℕ) × Sees text.now pos t) × (t.kind ≡ kind.Sign signs.LeftParen → ⊥) }
+    ensures { Expresses text.now words.old t.place free last AnyOpen (by_simple text.now t) (told_parsed free result) words.new × IfOk result (λ p. t.place < p.at) }
 {
-    if t.kind == BANG {
-        let l = negated(text, words, last, free, t.after, no_literals(), 2);
-        return letter_from(text, words, last, l);
+    if t.kind == Kind::Sign(Sign::Bang) {
+        let l = negated(text, words, last, free, t.after, no_literals(), 2)?;
+        return letter_rest(text, words, last, l.free, l.at, l.condition);
     }
-    if t.kind != NAME {
-        let part = nothing();
-        return Parsed {
-            fault: t.fault,
-            at: t.place,
-            free,
-            part,
-        };
+    if t.kind != Kind::Name {
+        return Err(Misread::misplaced(t));
     }
-    let cell = find(text, words, last, t.place, t.after);
-    if is_production(words, cell) {
-        let part = production_part(words, cell);
-        return Parsed {
-            fault: 0,
+    let found = find(text, words, last, t.place, t.after);
+    match production_found(words, found) {
+        Some(part) => Ok(Parsed {
             at: t.after,
             free,
             part,
-        };
+        }),
+        None => {
+            let l = literal_name(text, words, last, free, no_literals(), 2, found, t)?;
+            letter_rest(text, words, last, l.free, l.at, l.condition)
+        }
     }
-    let l = literal_name(text, words, last, free, no_literals(), 2, cell, t);
-    letter_from(text, words, last, l)
 }
 
 // A level of parentheses: what stands left of the last `||`, of the last `,` behind that, and of an `@` behind that.
 #[derive(Clone, Copy)]
 pub(crate) struct Depth {
-    pub(crate) alts: Part,
-    pub(crate) seqs: Part,
-    pub(crate) left: Part,
+    pub(crate) alts: Option<Part>,
+    pub(crate) seqs: Option<Part>,
+    pub(crate) left: Option<Part>,
 }
 
 // An operand with the `@` before it.
@@ -199,8 +149,7 @@ fn piped(words: &mut [u64], free: usize, l: Depth, part: Part) -> Made
     requires { (free + pending l ≤ length words.old) × (length words.old ≤ 65535) × ((L : Level) × LevelIs words.old free l L) × ((e : Exp) × PartIs words.old free part e) }
     ensures { Joined words.old free l part (present l.left) piped words.new result.free result.part }
 {
-    let left = l.left;
-    join(words, free, PIPE, left, part)
+    join(words, free, Operator::Pipe, l.left, part)
 }
 
 // An operand with the `@` and the `,` before it.
@@ -209,9 +158,7 @@ fn sequenced(words: &mut [u64], free: usize, l: Depth, part: Part) -> Made
     ensures { Joined words.old free l part (present l.seqs + present l.left) sequenced words.new result.free result.part }
 {
     let m = piped(words, free, l, part);
-    let seqs = l.seqs;
-    let right = m.part;
-    join(words, m.free, SEQUENCE, seqs, right)
+    join(words, m.free, Operator::Sequence, l.seqs, m.part)
 }
 
 // An operand with the `@`, the `,` and the `||` before it.
@@ -220,19 +167,18 @@ fn whole(words: &mut [u64], free: usize, l: Depth, part: Part) -> Made
     ensures { Joined words.old free l part (pending l) whole words.new result.free result.part }
 {
     let m = sequenced(words, free, l, part);
-    let alts = l.alts;
-    let right = m.part;
-    join(words, m.free, CHOICE, alts, right)
+    join(words, m.free, Operator::Choice, l.alts, m.part)
 }
 
 // No level yet.
 fn no_level() -> Depth
-    ensures { (result.alts.node ≡ 0) × (result.seqs.node ≡ 0) × (result.left.node ≡ 0) }
+    ensures { (result.alts ≡ None) × (result.seqs ≡ None) × (result.left ≡ None) }
 {
-    let alts = nothing();
-    let seqs = nothing();
-    let left = nothing();
-    Depth { alts, seqs, left }
+    Depth {
+        alts: None,
+        seqs: None,
+        left: None,
+    }
 }
 
 // An operand with the `*` behind it, if there is one.
@@ -241,66 +187,30 @@ fn with_star(text: &[u8], words: &mut [u64], free: usize, at: usize, part: Part)
     ensures { Starred text.now words.old at free part result words.new }
 {
     let t = see(text, at);
-    if t.kind != STAR {
-        return Parsed {
-            fault: 0,
-            at,
-            free,
-            part,
-        };
+    if t.kind != Kind::Sign(Sign::Star) {
+        return Parsed { at, free, part };
     }
     let m = starred(words, free, part);
-    let more = m.part;
     Parsed {
-        fault: 0,
         at: t.after,
         free: m.free,
-        part: more,
+        part: m.part,
     }
 }
 
 // What follows an operand: an operator, and the level behind it; or the end of the level, and all of it as one part.
 #[derive(Drop)]
-pub(crate) struct Turn {
-    pub(crate) more: bool,
+pub(crate) enum Turn {
+    On(Further),
+    Done(Parsed),
+}
+
+// A level that goes on, its words, and where to read on.
+#[derive(Clone, Copy)]
+pub(crate) struct Further {
+    pub(crate) at: usize,
+    pub(crate) free: usize,
     pub(crate) level: Depth,
-    pub(crate) parsed: Parsed,
-}
-
-// A refusal of the token `t`.
-fn turned_away(t: Seen, free: usize, l: Depth) -> Turn
-    ensures { (result.more ≡ false) × (result.parsed.fault ≡ t.fault) × (result.parsed.at ≡ t.place) }
-{
-    let part = nothing();
-    let parsed = Parsed {
-        fault: t.fault,
-        at: t.place,
-        free,
-        part,
-    };
-    Turn {
-        more: false,
-        level: l,
-        parsed,
-    }
-}
-
-// The level goes on behind an operator.
-fn onward(free: usize, at: usize, level: Depth) -> Turn
-    ensures { (result.more ≡ true) × (result.level ≡ level) × (result.parsed.fault ≡ 0) × (result.parsed.at ≡ at) × (result.parsed.free ≡ free) }
-{
-    let part = nothing();
-    let parsed = Parsed {
-        fault: 0,
-        at,
-        free,
-        part,
-    };
-    Turn {
-        more: true,
-        level,
-        parsed,
-    }
 }
 
 // Behind an operand that has its `*` or not.
@@ -311,86 +221,68 @@ fn behind_operand(
     at: usize,
     part: Part,
     l: Depth,
-) -> Turn
+) -> Result<Turn, Misread>
     requires { Behind text.now words.old at free l part }
-    ensures { Turned text.now words.old at free part l result words.new }
+    ensures { Turned text.now words.old at free part l (told_turn free l result) words.new }
 {
     let t = see(text, at);
-    if t.kind == STAR {
-        return turned_away(t, free, l);
+    // no plainer as a match: a pattern within a pattern gives the proof no fact in `_`
+    if t.kind == Kind::Sign(Sign::Star) {
+        return Err(Misread::misplaced(t));
     }
-    if t.kind == AT {
-        let left = l.left;
-        if left.node != 0 {
-            return turned_away(t, free, l);
+    if t.kind == Kind::Sign(Sign::At) {
+        if l.left.is_some() {
+            return Err(Misread::misplaced(t));
         }
-        let alts = l.alts;
-        let seqs = l.seqs;
-        return onward(
+        return Ok(Turn::On(Further {
+            at: t.after,
             free,
-            t.after,
-            Depth {
-                alts,
-                seqs,
-                left: part,
+            level: Depth {
+                left: Some(part),
+                ..l
             },
-        );
+        }));
     }
-    if t.kind == COMMA {
+    if t.kind == Kind::Sign(Sign::Comma) {
         let m = sequenced(words, free, l, part);
-        let alts = l.alts;
-        let seqs = m.part;
-        let left = nothing();
-        return onward(m.free, t.after, Depth { alts, seqs, left });
+        return Ok(Turn::On(Further {
+            at: t.after,
+            free: m.free,
+            level: Depth {
+                seqs: Some(m.part),
+                left: None,
+                ..l
+            },
+        }));
     }
     let m = whole(words, free, l, part);
-    let all = m.part;
-    if t.kind == DOUBLE_BAR {
-        let seqs = nothing();
-        let left = nothing();
-        return onward(
-            m.free,
-            t.after,
-            Depth {
-                alts: all,
-                seqs,
-                left,
+    if t.kind == Kind::Sign(Sign::DoubleBar) {
+        return Ok(Turn::On(Further {
+            at: t.after,
+            free: m.free,
+            level: Depth {
+                alts: Some(m.part),
+                seqs: None,
+                left: None,
             },
-        );
+        }));
     }
-    let parsed = Parsed {
-        fault: 0,
+    Ok(Turn::Done(Parsed {
         at,
         free: m.free,
-        part: all,
-    };
-    Turn {
-        more: false,
-        level: l,
-        parsed,
-    }
+        part: m.part,
+    }))
 }
 
 // Behind `)`, which must stand at the end of `p`.
-fn closed(text: &[u8], p: Parsed) -> Parsed
-    ensures { ClosedBy text.now p result }
+fn closed(text: &[u8], p: Parsed) -> Result<Parsed, Misread>
+    ensures { ClosedBy text.now (told_part p) (told_parsed p.free result) }
 {
     let t = see(text, p.at);
-    let part = p.part;
-    if t.kind != RIGHT_PAREN {
-        return Parsed {
-            fault: t.fault,
-            at: t.place,
-            free: p.free,
-            part,
-        };
+    if t.kind != Kind::Sign(Sign::RightParen) {
+        return Err(Misread::misplaced(t));
     }
-    Parsed {
-        fault: 0,
-        at: t.after,
-        free: p.free,
-        part,
-    }
+    Ok(Parsed { at: t.after, ..p })
 }
 
 // An operand: a letter, a production's name, or a parenthesis, of which `levels` more may be opened.
@@ -402,27 +294,18 @@ fn operand(
     free: usize,
     at: usize,
     levels: usize,
-) -> Parsed
+) -> Result<Parsed, Misread>
     requires { Named text.now words.old at free last × (levels ≤ 32) }
-    ensures { Operand text.now words.old at free last levels result words.new }
+    ensures { Operand text.now words.old at free last levels (told_parsed free result) words.new }
 {
     let t = see(text, at);
-    if t.kind != LEFT_PAREN {
+    if t.kind != Kind::Sign(Sign::LeftParen) {
         return simple_operand(text, words, last, free, t);
     }
     if levels == 0 {
-        let part = nothing();
-        return Parsed {
-            fault: 7,
-            at: t.place,
-            free,
-            part,
-        };
+        return Err(Misread::refused(t, Refusal::Crowded));
     }
-    let e = expression(text, words, last, free, t.after, levels - 1);
-    if e.fault != 0 {
-        return e;
-    }
+    let e = expression(text, words, last, free, t.after, levels - 1)?;
     closed(text, e)
 }
 
@@ -435,28 +318,23 @@ pub(crate) fn expression(
     free: usize,
     at: usize,
     levels: usize,
-) -> Parsed
+) -> Result<Parsed, Misread>
     requires { Named text.now words.old at free last × (levels ≤ 32) }
-    ensures { Whole text.now words.old at free last levels result words.new }
+    ensures { Whole text.now words.old at free last levels (told_parsed free result) words.new }
 {
     let mut level = no_level();
     let mut pos = at;
     let mut used = free;
     loop {
-        let p = operand(text, words, last, used, pos, levels);
-        if p.fault != 0 {
-            return p;
+        let p = operand(text, words, last, used, pos, levels)?;
+        let s = with_star(text, words, p.free, p.at, p.part);
+        match behind_operand(text, words, s.free, s.at, s.part, level)? {
+            Turn::On(further) => {
+                level = further.level;
+                pos = further.at;
+                used = further.free;
+            }
+            Turn::Done(parsed) => return Ok(parsed),
         }
-        let part = p.part;
-        let s = with_star(text, words, p.free, p.at, part);
-        let more = s.part;
-        let n = behind_operand(text, words, s.free, s.at, more, level);
-        let parsed = n.parsed;
-        if !n.more {
-            return parsed;
-        }
-        level = n.level;
-        pos = parsed.at;
-        used = parsed.free;
     }
 }

@@ -19,14 +19,18 @@ ghost use Rattle.std.specs.Prelude.{◌≡◌, cond, eqb, length, take, replicat
 ghost use Rattle.std.proofs.lemmas.List.Edits.{sets};
 ghost use Rattle.meaning.specs.Opening.{counts_of, open_text};
 ghost use Rattle.shape.specs.Walk.{kinds};
-ghost use Rattle.rules.specs.Counted.{limit_words};
-ghost use Rattle.rules.specs.Watches.{no_lists, none_counted, no_windows, letters_from, watch_by, watch_of, shown_outcome};
+ghost use Rattle.words.specs.Words.{part0};
+ghost use Rattle.rules.specs.declared.Refused.TheVariants.{AtByte};
+ghost use Rattle.rules.specs.Watches.{letters_from, empty_watch, watch_of, shown_outcome};
 
 use counted::counted_letters;
-use opening::open_monitors;
+use lay::Tables;
+use opening::{Starts, open_monitors};
+use refusals::Refusal;
 use statements::read;
+use tokens::Misread;
 use windows::windows_of;
-use words::part0;
+use words::RowKind;
 
 // A watch. Each row in one word, and letters, as `lay` has them (specs/Laying.antt); each letter's row; each
 // monitor's own row and first letter; how many rows, letters, monitors, wires and stores there are; the word
@@ -60,23 +64,38 @@ pub struct Watch {
     pub windows: [u16; 1056],
 }
 
-// Both counts, or a refusal's number with a byte's place, or with monitor and letter.
-#[derive(Clone, Copy)]
-pub enum Outcome {
-    Open(usize, usize),
-    AtByte(u8, usize),
-    AtLetter(u8, usize, usize),
+/// How many rows and letters an opened text has.
+#[derive(Clone, Copy, Debug, PartialEq, Eq)]
+pub struct Counts {
+    pub rows: usize,
+    pub letters: usize,
 }
 
+/// Why a text is turned away: at the place of a byte, or by a monitor and its letter.
+#[derive(Clone, Copy, Debug, PartialEq, Eq)]
+pub enum Refused {
+    AtByte(Refusal, usize),
+    AtLetter(Refusal, usize, usize),
+}
+
+impl From<Misread> for Refused {
+    ghost from_gives = { λ e r. r ≡ AtByte e.why e.place };
+
+    fn from(e: Misread) -> Refused {
+        Refused::AtByte(e.why, e.place)
+    }
+}
+
+// The watch stands beside the outcome, and not in it: it is the empty one where a text is refused, which the contract of `open` promises.
 #[derive(Clone, Copy)]
 pub struct Start {
-    pub outcome: Outcome,
+    pub outcome: Result<Counts, Refused>,
     pub watch: Watch,
 }
 
 // A watch of nothing.
 fn no_watch() -> Watch
-    ensures { result ≡ watch_by no_lists 0 0 0 0 [] none_counted no_windows }
+    ensures { result ≡ empty_watch }
 {
     Watch {
         table: [0; 1024],
@@ -104,12 +123,12 @@ fn no_watch() -> Watch
     }
 }
 
-// Stores a row that has the kind 0 as the place of the next letter; says how many letters there are then.
-fn place_letter(k: usize, row: usize, count: usize, places: &mut [u16; 256]) -> usize
+// Stores a letter's row, by its word, as the place of the next letter; says how many letters there are then.
+fn place_letter(word: u64, row: usize, count: usize, places: &mut [u16; 256]) -> usize
     requires { (row < 1024) × (count ≤ row) × (length places.old ≡ 256) }
-    ensures { (result ≡ cond (eqb k 0) (count + 1) count) × (places.new ≡ cond (eqb k 0) (set places.old count row) places.old) }
+    ensures { (result ≡ cond (eqb (part0 word) 0) (count + 1) count) × (places.new ≡ cond (eqb (part0 word) 0) (set places.old count row) places.old) }
 {
-    if k != 0 {
+    if RowKind::of(word) != Some(RowKind::Letter) {
         return count;
     }
     if 256 <= count {
@@ -126,10 +145,8 @@ fn letter_rows(table: &[u64; 1024], rows: usize) -> [u16; 256]
 {
     let mut places = [0u16; 256];
     let mut count: usize = 0;
-    let mut row: usize = 0;
-    while row < rows {
-        count = place_letter(part0(table[row]), row, count, &mut places);
-        row += 1;
+    for (row, word) in table[..rows].iter().enumerate() {
+        count = place_letter(*word, row, count, &mut places);
     }
     places
 }
@@ -140,161 +157,103 @@ fn start_marks(count: usize) -> [u8; 288]
     ensures { result ≡ sets (replicate 288 0) 256 (replicate count 1) }
 {
     let mut marks = [0u8; 288];
-    let mut i: usize = 0;
-    while i < count {
-        marks[256 + i] = 1;
-        i += 1;
-    }
+    marks[256..256 + count].fill(1);
     marks
 }
 
-// So many values from the front, and zeros.
-fn first_values(kept: &[u64; 24], count: usize) -> [u64; 16]
-    requires { (count ≤ 16) × (length kept.now ≡ 24) }
-    ensures { result ≡ sets (replicate 16 0) 0 (take count kept.now) }
+// Words in a longer array, and zeros behind them.
+fn padded<const N: usize>(front: &[u64]) -> [u64; N]
+    requires { length front.now ≤ N }
+    ensures { result ≡ sets (replicate N 0) 0 front.now }
 {
-    let mut values = [0u64; 16];
-    let mut i: usize = 0;
-    while i < count {
-        values[i] = kept[i];
-        i += 1;
-    }
-    values
+    let mut words = [0u64; N];
+    words[..front.len()].copy_from_slice(front);
+    words
 }
 
-// The words of so many limits, which stand behind the stores' values, and zeros.
-fn limit_words(kept: &[u64; 24], count: usize) -> [u64; 8]
-    requires { (count ≤ 8) × (length kept.now ≡ 24) }
-    ensures { result ≡ sets (replicate 8 0) 0 (limit_words kept.now count) }
-{
-    let mut limits = [0u64; 8];
-    let mut i: usize = 0;
-    while i < count {
-        limits[i] = kept[16 + i];
-        i += 1;
-    }
-    limits
-}
-
-// No watch, and why.
-fn refusal(outcome: Outcome) -> Start
-    ensures { (result.outcome ≡ outcome) × (result.watch ≡ watch_by no_lists 0 0 0 0 [] none_counted no_windows) }
-{
-    let watch = no_watch();
-    Start { outcome, watch }
-}
-
-// Opens a text that is not overlong, with words that have room for it.
-fn open_in(text: &[u8], words: &mut [u64]) -> Start
-    requires { (length text.now ≤ 16384) × (3 * length text.now + 2 ≤ length words.old) × (length words.old ≤ 65535) }
-    ensures { (shown_outcome result.outcome ≡ counts_of (open_text text.now)) × (result.watch ≡ watch_of (open_text text.now)) × (length words.new ≡ length words.old) }
+// Opens a text that is not overlong into a watch of nothing, with words that have room for it. A refusal leaves the watch.
+fn open_in(text: &[u8], words: &mut [u64], watch: &mut Watch) -> Result<Counts, Refused>
+    requires { (length text.now ≤ 16384) × (3 * length text.now + 2 ≤ length words.old) × (length words.old ≤ 65535) × (watch.old ≡ empty_watch) }
+    ensures { (shown_outcome result ≡ counts_of (open_text text.now)) × (watch.new ≡ watch_of (open_text text.now)) }
 {
     let mut kept = [0u64; 24];
     let mut list = [0u16; 32];
-    let r = read(text, words, &mut kept, &mut list);
-    if r.fault != 0 {
-        return refusal(Outcome::AtByte(r.fault, r.at));
-    }
-    let mut table = [0u64; 1024];
-    let mut look = [0u64; 256];
-    let mut want = [0u64; 256];
-    let mut held = [0u64; 256];
-    let mut links = [0u64; 1024];
-    let mut numbers = [0u64; 1024];
-    let mut own = [0u16; 32];
-    let mut firsts = [0u16; 32];
-    let o = open_monitors(
-        words,
-        &list,
-        r.count,
-        &mut table,
-        &mut look,
-        &mut want,
-        &mut held,
-        &mut links,
-        &mut numbers,
-        &mut own,
-        &mut firsts,
-    );
-    if o.fault != 0 {
-        return refusal(Outcome::AtLetter(o.fault, o.monitor, o.letter));
-    }
-    let values = first_values(&kept, r.stores);
-    let marks = start_marks(r.count);
-    let places = letter_rows(&table, o.rows);
-    let counted = counted_letters(words, &list, r.count, &kept, r.limits);
-    let limits = limit_words(&kept, r.limits);
-    let windows = windows_of(&limits, r.limits);
-    let watch = Watch {
-        table,
-        look,
-        want,
-        held,
-        links,
-        numbers,
-        places,
-        own,
-        firsts,
-        rows: o.rows,
-        letters: o.letters,
-        monitors: r.count,
-        wires: r.wires,
-        stores: r.stores,
-        before: 0,
-        values,
-        marks,
-        ticks: 0,
-        totals: [0; 256],
-        stopped: false,
-        counted,
-        windows,
+    let reading = read(text, words, &mut kept, &mut list)?;
+    let mut tables = Tables {
+        table: [0; 1024],
+        look: [0; 256],
+        want: [0; 256],
+        held: [0; 256],
+        links: [0; 1024],
+        numbers: [0; 1024],
     };
-    Start {
-        outcome: Outcome::Open(o.rows, o.letters),
-        watch,
-    }
+    let mut starts = Starts {
+        own: [0; 32],
+        firsts: [0; 32],
+    };
+    let monitors = &list[..reading.count];
+    let counts = open_monitors(words, monitors, &mut tables, &mut starts)?;
+    let limits = &kept[16..16 + reading.limits];
+    watch.table = tables.table;
+    watch.rows = counts.rows;
+    watch.look = tables.look;
+    watch.letters = counts.letters;
+    watch.want = tables.want;
+    watch.monitors = reading.count;
+    watch.held = tables.held;
+    watch.links = tables.links;
+    watch.wires = reading.wires;
+    watch.numbers = tables.numbers;
+    watch.stores = reading.stores;
+    watch.places = letter_rows(&tables.table, counts.rows);
+    watch.own = starts.own;
+    watch.firsts = starts.firsts;
+    watch.values = padded(&kept[..reading.stores]);
+    watch.marks = start_marks(reading.count);
+    watch.counted = counted_letters(words, monitors, limits);
+    watch.windows = windows_of(&padded(limits), reading.limits);
+    Ok(counts)
 }
 
-// Opens a text of up to 4,096 bytes. It calls itself, which never happens, so that no caller's frame holds its words.
+// Opens a text with so many words. It is not inlined, so that no caller's frame holds them.
 #[inline(never)]
-fn open_middle(text: &[u8]) -> Start
-    requires { length text.now ≤ 4096 }
-    ensures { (shown_outcome result.outcome ≡ counts_of (open_text text.now)) × (result.watch ≡ watch_of (open_text text.now)) }
+fn open_sized<const WORDS: usize>(text: &[u8], watch: &mut Watch) -> Result<Counts, Refused>
+    requires { (length text.now ≤ 16384) × (3 * length text.now + 2 ≤ WORDS) × (WORDS ≤ 65535) × (watch.old ≡ empty_watch) }
+    ensures { (shown_outcome result ≡ counts_of (open_text text.now)) × (watch.new ≡ watch_of (open_text text.now)) }
 {
-    let mut words = [0u64; 12290];
-    if text.len() > 4096 {
-        return open_middle(text);
-    }
-    open_in(text, &mut words)
+    let mut words = [0u64; WORDS];
+    open_in(text, &mut words, watch)
 }
 
-// Opens a text of up to 16,384 bytes. It calls itself, which never happens, so that no caller's frame holds its words.
-#[inline(never)]
-fn open_large(text: &[u8]) -> Start
-    requires { length text.now ≤ 16384 }
-    ensures { (shown_outcome result.outcome ≡ counts_of (open_text text.now)) × (result.watch ≡ watch_of (open_text text.now)) }
+// Opens a text into a watch of nothing. The words that it is read into are few where the text is short.
+fn open_any(text: &[u8], watch: &mut Watch) -> Result<Counts, Refused>
+    requires { watch.old ≡ empty_watch }
+    ensures { (shown_outcome result ≡ counts_of (open_text text.now)) × (watch.new ≡ watch_of (open_text text.now)) }
 {
-    let mut words = [0u64; 49154];
-    if text.len() > 16384 {
-        return open_large(text);
+    if 16384 < text.len() {
+        return Err(Refused::AtByte(Refusal::Overlong, 0));
     }
-    open_in(text, &mut words)
+    if 4096 < text.len() {
+        return open_sized::<49154>(text, watch);
+    }
+    if 512 < text.len() {
+        return open_sized::<12290>(text, watch);
+    }
+    open_sized::<1538>(text, watch)
 }
 
 // Opens a rule text: a watch with tick count 0, the first store values, each monitor at its start and no letter met, and
-// both counts; or the refusal. The words that it is read into are few where the text is short.
+// both counts; or the refusal.
 pub fn open(text: &[u8]) -> Start
     ensures { (shown_outcome result.outcome ≡ counts_of (open_text text.now)) × (result.watch ≡ watch_of (open_text text.now)) }
 {
-    if 16384 < text.len() {
-        return refusal(Outcome::AtByte(1, 0));
-    }
-    if 4096 < text.len() {
-        return open_large(text);
-    }
-    if 512 < text.len() {
-        return open_middle(text);
-    }
-    let mut words = [0u64; 1538];
-    open_in(text, &mut words)
+    let mut start = Start {
+        outcome: Ok(Counts {
+            rows: 0,
+            letters: 0,
+        }),
+        watch: no_watch(),
+    };
+    start.outcome = open_any(text, &mut start.watch);
+    start
 }

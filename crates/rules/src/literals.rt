@@ -1,26 +1,28 @@
 // Literals: what a letter or a define asks for, as masks and store tests, and reading one literal after another.
 ghost use Rattle.std.specs.Prelude.{◌≡◌, true, ◌&&◌, List, ℕ, ◌+◌, ◌-◌, ◌*◌, ◌^◌, ◌<◌, ◌≤◌, eqb, length};
 ghost use Rattle.lexer.specs.Bytes.{same};
+ghost use Rattle.lexer.specs.declared.Kind.TheVariants as kind;
 ghost use Rattle.meaning.specs.Expression.{Literal};
 ghost use Rattle.masks.specs.Masks.{compatible};
-ghost use Rattle.rules.specs.Cells.{link, held_at, StoreAt, DefineAt, Finds};
-ghost use Rattle.rules.specs.Conditions.{TestsAre, Joined, Linked, LinkedBoth, HeldBoth, Given, Adds, AllAdded, by_store, by_define, by_test, by_name, Frugal};
+ghost use Rattle.rules.specs.Cells.{link, held_at, StoreAt, DefineAt};
+ghost use Rattle.rules.specs.NamesFound.{FindsCell};
+ghost use Rattle.rules.specs.Conditions.{TestsAre, Joined, Linked, LinkedBoth, HeldBoth, Given, told_literals, Adds, AllAdded, by_store, by_define, by_test, by_name, Frugal};
 ghost use Rattle.rules.specs.Picks.{spelt, bytes_of};
 ghost use Rattle.meaning.specs.Reading.{sign, bit_index, store_equals, wire_equals, past_name, wire_more, negated, literal, literal_more};
-ghost use Rattle.rules.specs.Seen.{Sees};
+ghost use Rattle.rules.specs.Seen.{is_name, Sees};
 ghost use Rattle.rules.specs.Reads.{read_from};
 
-use super::names::{DEFINED, STORE, WIRE, find, find_kind};
-use super::tokens::{NAME, NUMBER, PAST, Seen, number_to, see, sign};
-use lexer::{
-    AMPERSAND, BANG, DOUBLE_EQUALS, LEFT_BRACKET, LEFT_PAREN, RIGHT_BRACKET, RIGHT_PAREN, equal,
-};
+use super::names::{NameKind, find, find_kind};
+use super::tokens::{Misread, number_to, see, sign};
+use lexer::{Kind, Sign, Token, Word, equal};
 use masks::compatible;
+use refusals::Refusal;
 use words::{part0, part1, part2, part3, quad};
 
 // The wires looked at and the values wanted there; whether no wire is wanted both ways; how many store tests there are,
 // three standing for any more; the last of their links, where there are at most two; and the index of the word that has
 // the wires to be as before (0: none).
+// no plainer as Option: `link` and `held` stand so in words, four bare numbers to a word, where 0 is none
 #[derive(Clone, Copy)]
 pub(crate) struct Condition {
     pub(crate) look: u64,
@@ -31,10 +33,9 @@ pub(crate) struct Condition {
     pub(crate) held: usize,
 }
 
-// A condition with its words, and where to read on; or a refusal.
+// A condition with its words, and where to read on.
 #[derive(Drop)]
 pub(crate) struct Literals {
-    pub(crate) fault: u8,
     pub(crate) at: usize,
     pub(crate) free: usize,
     pub(crate) condition: Condition,
@@ -46,7 +47,7 @@ pub(crate) fn largest(width: usize) -> u64
     ensures { result ≡ 2 ^ width - 1 }
 {
     if width == 64 {
-        return 18446744073709551615;
+        return u64::MAX;
     }
     (1 << width) - 1
 }
@@ -63,13 +64,7 @@ fn moved(value: u64, width: usize, lo: usize) -> u64
 fn agree_too(q: Condition, look: u64, want: u64, agrees: bool) -> bool
     ensures { result ≡ ((q.agrees && agrees) && compatible q.look q.want look want) }
 {
-    if !q.agrees {
-        return false;
-    }
-    if !agrees {
-        return false;
-    }
-    compatible(q.look, q.want, look, want)
+    q.agrees && agrees && compatible(q.look, q.want, look, want)
 }
 
 // A condition, and masks besides.
@@ -80,9 +75,7 @@ fn both(q: Condition, look: u64, want: u64, agrees: bool) -> Condition
         look: q.look | look,
         want: q.want | want,
         agrees: agree_too(q, look, want, agrees),
-        tests: q.tests,
-        link: q.link,
-        held: q.held,
+        ..q
     }
 }
 
@@ -188,6 +181,7 @@ pub(crate) fn held_at(words: &[u64], held: usize) -> u64
     requires { held < length words.now }
     ensures { result ≡ held_at words.now held }
 {
+    // no plainer: a word holds the index in 16 bits, 0 for none
     if held == 0 {
         return 0;
     }
@@ -228,34 +222,17 @@ fn bit_literal(
     lo: usize,
     width: usize,
     value: u64,
-) -> Literals
+) -> Result<Literals, Misread>
     requires { (1 ≤ width) × (lo + width ≤ 64) × (value < 2) × (at ≤ length text.now) }
-    ensures { (P : List ℕ) → (h most : ℕ) → Adds text.now (λ ns x ls. read_from text.now at ns (bit_index x ls lo width value)) P at free h q most result P }
+    ensures { (P : List ℕ) → (h most : ℕ) → Adds text.now (λ ns x ls. read_from text.now at ns (bit_index x ls lo width value)) P at free h q most (told_literals free q result) P }
 {
-    let i = number_to(text, at, (width - 1) as u64);
-    if i.fault != 0 {
-        return Literals {
-            fault: i.fault,
-            at: i.at,
-            free,
-            condition: q,
-        };
-    }
-    let close = sign(text, i.at, RIGHT_BRACKET);
-    if close.fault != 0 {
-        return Literals {
-            fault: close.fault,
-            at: close.at,
-            free,
-            condition: q,
-        };
-    }
-    Literals {
-        fault: 0,
-        at: close.at,
+    let i = number_to(text, at, (width - 1) as u64)?;
+    let close = sign(text, i.after, Sign::RightBracket)?;
+    Ok(Literals {
+        at: close,
         free,
         condition: with_wires(q, lo + i.value as usize, 1, value),
-    }
+    })
 }
 
 // `== number` behind the name of a store.
@@ -268,42 +245,22 @@ fn store_literal(
     q: Condition,
     store: usize,
     width: usize,
-) -> Literals
+) -> Result<Literals, Misread>
     requires { Given text.now words.old at free last q × (store < 16) × (1 ≤ width) × (width ≤ 64) }
-    ensures { (most : ℕ) → q.tests + 1 ≤ most → Adds text.now (λ ns x ls. read_from text.now at ns (sign 14 (store_equals x ls store width))) words.old at free last q most result words.new }
+    ensures { (most : ℕ) → q.tests + 1 ≤ most → Adds text.now (λ ns x ls. read_from text.now at ns (sign 14 (store_equals x ls store width))) words.old at free last q most (told_literals free q result) words.new }
 {
-    let equals = sign(text, at, DOUBLE_EQUALS);
-    if equals.fault != 0 {
-        return Literals {
-            fault: equals.fault,
-            at: equals.at,
-            free,
-            condition: q,
-        };
-    }
-    let v = number_to(text, equals.at, largest(width));
-    if v.fault != 0 {
-        return Literals {
-            fault: v.fault,
-            at: v.at,
-            free,
-            condition: q,
-        };
-    }
+    let equals = sign(text, at, Sign::DoubleEquals)?;
+    let v = number_to(text, equals, largest(width))?;
     let t = with_link(words, free, q.tests, q.link, store, 0, 0, v.value);
-    Literals {
-        fault: 0,
-        at: v.at,
+    Ok(Literals {
+        at: v.after,
         free: t.free,
         condition: Condition {
-            look: q.look,
-            want: q.want,
-            agrees: q.agrees,
             tests: t.tests,
             link: t.link,
-            held: q.held,
+            ..q
         },
-    }
+    })
 }
 
 // The name of a store behind `wire ==`.
@@ -316,60 +273,37 @@ fn wire_store(
     most: usize,
     lo: usize,
     width: usize,
-    t: Seen,
-) -> Literals
+    t: Token,
+) -> Result<Literals, Misread>
     requires { Given text.now words.old t.place free last q × (1 ≤ width) × (lo + width ≤ 64) × ((pos : ℕ) × Sees text.now pos t) }
-    ensures { Adds text.now (by_store text.now t lo width) words.old t.place free last q most result words.new }
+    ensures { Adds text.now (by_store text.now t lo width) words.old t.place free last q most (told_literals free q result) words.new }
 {
-    let s = find_kind(text, words, last, t, STORE);
-    if s.fault != 0 {
-        return Literals {
-            fault: s.fault,
-            at: t.place,
-            free,
-            condition: q,
-        };
-    }
-    let cell = s.cell;
+    let cell = find_kind(text, words, last, t, NameKind::Store)?;
     let what = words[cell + 1];
     if part1(what) != width {
-        return Literals {
-            fault: 6,
-            at: t.place,
-            free,
-            condition: q,
-        };
+        return Err(Misread::refused(t, Refusal::Oversize));
     }
     if most < q.tests + 1 {
-        return Literals {
-            fault: 7,
-            at: t.place,
-            free,
-            condition: q,
-        };
+        return Err(Misread::refused(t, Refusal::Crowded));
     }
     let l = with_link(words, free, q.tests, q.link, part0(what), lo, width, 0);
-    Literals {
-        fault: 0,
+    Ok(Literals {
         at: t.after,
         free: l.free,
         condition: Condition {
-            look: q.look,
-            want: q.want,
-            agrees: q.agrees,
             tests: l.tests,
             link: l.link,
-            held: q.held,
+            ..q
         },
-    }
+    })
 }
 
 // Whether the token is the name whose bytes are those from `place` up to `after`.
-fn is_name(text: &[u8], t: Seen, place: usize, after: usize) -> bool
+fn is_name(text: &[u8], t: Token, place: usize, after: usize) -> bool
     requires { ((pos : ℕ) × Sees text.now pos t) × (place ≤ after) × (after ≤ length text.now) }
-    ensures { result ≡ (eqb t.kind 18 && same (bytes_of text.now t) (spelt text.now place after)) }
+    ensures { result ≡ (is_name t.kind && same (bytes_of text.now t) (spelt text.now place after)) }
 {
-    if t.kind != NAME {
+    if t.kind != Kind::Name {
         return false;
     }
     let from = t.place;
@@ -389,51 +323,22 @@ fn past_literal(
     width: usize,
     place: usize,
     after: usize,
-) -> Literals
+) -> Result<Literals, Misread>
     requires { Given text.now words.old at free last q × (1 ≤ width) × (lo + width ≤ 64) × (place ≤ after) × (after ≤ length text.now) }
-    ensures { (most : ℕ) → Adds text.now (λ ns x ls. read_from text.now at ns (sign 6 (past_name x ls (spelt text.now place after) lo width))) words.old at free last q most result words.new }
+    ensures { (most : ℕ) → Adds text.now (λ ns x ls. read_from text.now at ns (sign 6 (past_name x ls (spelt text.now place after) lo width))) words.old at free last q most (told_literals free q result) words.new }
 {
-    let open = sign(text, at, LEFT_PAREN);
-    if open.fault != 0 {
-        return Literals {
-            fault: open.fault,
-            at: open.at,
-            free,
-            condition: q,
-        };
-    }
-    let t = see(text, open.at);
+    let open = sign(text, at, Sign::LeftParen)?;
+    let t = see(text, open);
     if !is_name(text, t, place, after) {
-        return Literals {
-            fault: t.fault,
-            at: t.place,
-            free,
-            condition: q,
-        };
+        return Err(Misread::misplaced(t));
     }
-    let close = sign(text, t.after, RIGHT_PAREN);
-    if close.fault != 0 {
-        return Literals {
-            fault: close.fault,
-            at: close.at,
-            free,
-            condition: q,
-        };
-    }
+    let close = sign(text, t.after, Sign::RightParen)?;
     words[free] = held_at(words, q.held) | moved(largest(width), width, lo);
-    Literals {
-        fault: 0,
-        at: close.at,
+    Ok(Literals {
+        at: close,
         free: free + 1,
-        condition: Condition {
-            look: q.look,
-            want: q.want,
-            agrees: q.agrees,
-            tests: q.tests,
-            link: q.link,
-            held: free,
-        },
-    }
+        condition: Condition { held: free, ..q },
+    })
 }
 
 // What wires are compared with, behind `wire ==`; the wire's name stands from `place` up to `after`.
@@ -449,31 +354,25 @@ fn wire_equals(
     width: usize,
     place: usize,
     after: usize,
-) -> Literals
+) -> Result<Literals, Misread>
     requires { Given text.now words.old at free last q × (1 ≤ width) × (lo + width ≤ 64) × (place ≤ after) × (after ≤ length text.now) }
-    ensures { Adds text.now (λ ns x ls. read_from text.now at ns (wire_equals x ls (spelt text.now place after) lo width)) words.old at free last q most result words.new }
+    ensures { Adds text.now (λ ns x ls. read_from text.now at ns (wire_equals x ls (spelt text.now place after) lo width)) words.old at free last q most (told_literals free q result) words.new }
 {
     let t = see(text, at);
-    if t.kind == PAST {
+    if t.kind == Kind::Word(Word::Past) {
         return past_literal(text, words, last, free, t.after, q, lo, width, place, after);
     }
-    if t.kind != NUMBER {
+    let Kind::Number(value) = t.kind else {
         return wire_store(text, words, last, free, q, most, lo, width, t);
+    };
+    if largest(width) < value {
+        return Err(Misread::refused(t, Refusal::Oversize));
     }
-    if largest(width) < t.value {
-        return Literals {
-            fault: 6,
-            at: t.place,
-            free,
-            condition: q,
-        };
-    }
-    Literals {
-        fault: 0,
+    Ok(Literals {
         at: t.after,
         free,
-        condition: with_wires(q, lo, width, t.value),
-    }
+        condition: with_wires(q, lo, width, value),
+    })
 }
 
 // Behind the name of wires that stands from `place` up to `at`; `value` is what a wire by itself is to have.
@@ -489,41 +388,33 @@ fn wire_more(
     width: usize,
     value: u64,
     place: usize,
-) -> Literals
+) -> Result<Literals, Misread>
     requires { Given text.now words.old at free last q × (1 ≤ width) × (lo + width ≤ 64) × (value < 2) × (place ≤ at) }
-    ensures { Adds text.now (λ ns x ls. read_from text.now at ns (wire_more x ls (spelt text.now place at) lo width value place)) words.old at free last q most result words.new }
+    ensures { Adds text.now (λ ns x ls. read_from text.now at ns (wire_more x ls (spelt text.now place at) lo width value place)) words.old at free last q most (told_literals free q result) words.new }
 {
     let t = see(text, at);
-    if t.kind == LEFT_BRACKET {
+    if t.kind == Kind::Sign(Sign::LeftBracket) {
         return bit_literal(text, t.after, free, q, lo, width, value);
     }
-    if t.kind == DOUBLE_EQUALS {
+    if t.kind == Kind::Sign(Sign::DoubleEquals) {
         if value == 1 {
             return wire_equals(
                 text, words, last, free, t.after, q, most, lo, width, place, at,
             );
         }
-        return Literals {
-            fault: t.fault,
-            at: t.place,
-            free,
-            condition: q,
-        };
+        return Err(Misread::misplaced(t));
     }
     if width != 1 {
-        return Literals {
-            fault: 6,
-            at: place,
-            free,
-            condition: q,
-        };
+        return Err(Misread {
+            why: Refusal::Oversize,
+            place,
+        });
     }
-    Literals {
-        fault: 0,
+    Ok(Literals {
         at,
         free,
         condition: with_wires(q, lo, 1, value),
-    }
+    })
 }
 
 // The name of wires behind `!`.
@@ -535,21 +426,12 @@ pub(crate) fn negated(
     at: usize,
     q: Condition,
     most: usize,
-) -> Literals
+) -> Result<Literals, Misread>
     requires { Given text.now words.old at free last q }
-    ensures { Adds text.now (λ ns x ls. read_from text.now at ns (negated x ls)) words.old at free last q most result words.new }
+    ensures { Adds text.now (λ ns x ls. read_from text.now at ns (negated x ls)) words.old at free last q most (told_literals free q result) words.new }
 {
     let t = see(text, at);
-    let w = find_kind(text, words, last, t, WIRE);
-    if w.fault != 0 {
-        return Literals {
-            fault: w.fault,
-            at: t.place,
-            free,
-            condition: q,
-        };
-    }
-    let cell = w.cell;
+    let cell = find_kind(text, words, last, t, NameKind::Wire)?;
     let what = words[cell + 1];
     wire_more(
         text,
@@ -575,37 +457,29 @@ fn define_literal(
     q: Condition,
     most: usize,
     cell: usize,
-    t: Seen,
-) -> Literals
-    requires { Given text.now words.old t.place free last q × ((ds : List Literal) × DefineAt words.old free cell ds) × ((pos : ℕ) × Sees text.now pos t) × (t.kind ≡ 18) }
-    ensures { ((ds : List Literal) → DefineAt words.old free cell ds → Adds text.now (by_define text.now t ds) words.old t.place free last q most result words.new) × Frugal q.tests q.held result.fault result.free t.after free result.at }
+    t: Token,
+) -> Result<Literals, Misread>
+    requires { Given text.now words.old t.place free last q × ((ds : List Literal) × DefineAt words.old free cell ds) × ((pos : ℕ) × Sees text.now pos t) × (t.kind ≡ kind.Name) }
+    ensures { ((ds : List Literal) → DefineAt words.old free cell ds → Adds text.now (by_define text.now t ds) words.old t.place free last q most (told_literals free q result) words.new) × Frugal q.tests q.held (told_literals free q result) t.after free }
 {
     let what = words[cell + 1];
     let tests = part1(what);
     if most < q.tests + tests {
-        return Literals {
-            fault: 7,
-            at: t.place,
-            free,
-            condition: q,
-        };
+        return Err(Misread::refused(t, Refusal::Crowded));
     }
     let joined = both(q, words[cell + 2], words[cell + 3], part0(what) == 1);
     let l = with_links(words, free, q.tests, q.link, tests, part2(what));
     let h = join_held(words, l.free, q.held, part3(what));
-    Literals {
-        fault: 0,
+    Ok(Literals {
         at: t.after,
         free: h.free,
         condition: Condition {
-            look: joined.look,
-            want: joined.want,
-            agrees: joined.agrees,
             tests: l.tests,
             link: l.link,
             held: h.held,
+            ..joined
         },
-    }
+    })
 }
 
 // The name of a store, whose cell is `cell`.
@@ -617,18 +491,13 @@ fn store_name(
     q: Condition,
     most: usize,
     cell: usize,
-    t: Seen,
-) -> Literals
-    requires { Given text.now words.old t.place free last q × ((n : ℕ) × (w : ℕ) × StoreAt words.old free cell n w) × ((pos : ℕ) × Sees text.now pos t) × (t.kind ≡ 18) }
-    ensures { ((n w : ℕ) → StoreAt words.old free cell n w → Adds text.now (by_test text.now t n w) words.old t.place free last q most result words.new) × Frugal q.tests q.held result.fault result.free t.after free result.at }
+    t: Token,
+) -> Result<Literals, Misread>
+    requires { Given text.now words.old t.place free last q × ((n : ℕ) × (w : ℕ) × StoreAt words.old free cell n w) × ((pos : ℕ) × Sees text.now pos t) × (t.kind ≡ kind.Name) }
+    ensures { ((n w : ℕ) → StoreAt words.old free cell n w → Adds text.now (by_test text.now t n w) words.old t.place free last q most (told_literals free q result) words.new) × Frugal q.tests q.held (told_literals free q result) t.after free }
 {
     if most < q.tests + 1 {
-        return Literals {
-            fault: 7,
-            at: t.place,
-            free,
-            condition: q,
-        };
+        return Err(Misread::refused(t, Refusal::Crowded));
     }
     let what = words[cell + 1];
     store_literal(
@@ -643,7 +512,7 @@ fn store_name(
     )
 }
 
-// A literal that the name `t` begins, whose cell is `cell`.
+// A literal that the name `t` begins, with its cell, if it is declared.
 pub(crate) fn literal_name(
     text: &[u8],
     words: &mut [u64],
@@ -651,49 +520,39 @@ pub(crate) fn literal_name(
     free: usize,
     q: Condition,
     most: usize,
-    cell: usize,
-    t: Seen,
-) -> Literals
-    requires { Given text.now words.old t.place free last q × ((pos : ℕ) × Sees text.now pos t) × (t.kind ≡ 18) × Finds text.now words.old last (bytes_of text.now t) cell }
-    ensures { Adds text.now (by_name text.now t) words.old t.place free last q most result words.new × Frugal q.tests q.held result.fault result.free t.after free result.at }
+    found: Option<usize>,
+    t: Token,
+) -> Result<Literals, Misread>
+    requires { Given text.now words.old t.place free last q × ((pos : ℕ) × Sees text.now pos t) × (t.kind ≡ kind.Name) × FindsCell text.now words.old last (bytes_of text.now t) found }
+    ensures { Adds text.now (by_name text.now t) words.old t.place free last q most (told_literals free q result) words.new × Frugal q.tests q.held (told_literals free q result) t.after free }
 {
-    if cell == 0 {
-        return Literals {
-            fault: 4,
-            at: t.place,
-            free,
-            condition: q,
-        };
+    let Some(cell) = found else {
+        return Err(Misread::refused(t, Refusal::Unknown));
+    };
+    let Some(kind) = NameKind::of(words[cell]) else {
+        return Err(Misread::refused(t, Refusal::Unknown));
+    };
+    match kind {
+        NameKind::Wire => {
+            let what = words[cell + 1];
+            wire_more(
+                text,
+                words,
+                last,
+                free,
+                t.after,
+                q,
+                most,
+                part0(what),
+                part1(what),
+                1,
+                t.place,
+            )
+        }
+        NameKind::Defined => define_literal(text, words, last, free, q, most, cell, t),
+        NameKind::Store => store_name(text, words, last, free, q, most, cell, t),
+        NameKind::Production => Err(Misread::refused(t, Refusal::Unknown)),
     }
-    let kind = part0(words[cell]);
-    if kind == WIRE {
-        let what = words[cell + 1];
-        return wire_more(
-            text,
-            words,
-            last,
-            free,
-            t.after,
-            q,
-            most,
-            part0(what),
-            part1(what),
-            1,
-            t.place,
-        );
-    }
-    if kind == DEFINED {
-        return define_literal(text, words, last, free, q, most, cell, t);
-    }
-    if kind != STORE {
-        return Literals {
-            fault: 4,
-            at: t.place,
-            free,
-            condition: q,
-        };
-    }
-    store_name(text, words, last, free, q, most, cell, t)
 }
 
 // One literal.
@@ -705,24 +564,19 @@ pub(crate) fn literal(
     at: usize,
     q: Condition,
     most: usize,
-) -> Literals
+) -> Result<Literals, Misread>
     requires { Given text.now words.old at free last q }
-    ensures { Adds text.now (λ ns x ls. read_from text.now at ns (literal x ls)) words.old at free last q most result words.new }
+    ensures { Adds text.now (λ ns x ls. read_from text.now at ns (literal x ls)) words.old at free last q most (told_literals free q result) words.new }
 {
     let t = see(text, at);
-    if t.kind == BANG {
+    if t.kind == Kind::Sign(Sign::Bang) {
         return negated(text, words, last, free, t.after, q, most);
     }
-    if t.kind != NAME {
-        return Literals {
-            fault: t.fault,
-            at: t.place,
-            free,
-            condition: q,
-        };
+    if t.kind != Kind::Name {
+        return Err(Misread::misplaced(t));
     }
-    let cell = find(text, words, last, t.place, t.after);
-    literal_name(text, words, last, free, q, most, cell, t)
+    let found = find(text, words, last, t.place, t.after);
+    literal_name(text, words, last, free, q, most, found, t)
 }
 
 // The literals that follow, each behind `&`.
@@ -734,24 +588,20 @@ pub(crate) fn more_literals(
     at: usize,
     q: Condition,
     most: usize,
-) -> Literals
+) -> Result<Literals, Misread>
     requires { Given text.now words.old at free last q }
-    ensures { AllAdded text.now (λ ns x ls. read_from text.now at ns (literal_more x ls)) words.old at free last q most result words.new }
+    ensures { AllAdded text.now (λ ns x ls. read_from text.now at ns (literal_more x ls)) words.old at free last q most (told_literals free q result) words.new }
 {
     let mut r = Literals {
-        fault: 0,
         at,
         free,
         condition: q,
     };
     loop {
         let t = see(text, r.at);
-        if t.kind != AMPERSAND {
-            return r;
+        if t.kind != Kind::Sign(Sign::Ampersand) {
+            return Ok(r);
         }
-        r = literal(text, words, last, r.free, t.after, r.condition, most);
-        if r.fault != 0 {
-            return r;
-        }
+        r = literal(text, words, last, r.free, t.after, r.condition, most)?;
     }
 }

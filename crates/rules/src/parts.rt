@@ -5,27 +5,62 @@ ghost use Rattle.meaning.specs.Expression.{Exp};
 ghost use Rattle.meaning.specs.Shape.{nullable};
 ghost use Rattle.meaning.specs.Summary.{counted, hollow_at};
 ghost use Rattle.rules.specs.Cells.{letter_kind, coded, ProductionAt};
-ghost use Rattle.rules.specs.Parts.{present, Summed, PartIs, OptionIs, Within, SumOf, Later, op_of, Operator, JoinMade, StarMade, ProductionMade, LetterMade};
+ghost use Rattle.rules.specs.Parts.{present, Summed, PartIs, OptionIs, Within, SumOf, Later, op_of, operator_number, node_number, JoinMade, StarMade, ProductionMade, LetterMade};
 
 use super::literals::Condition;
 use words::{part0, part1, part2, part3, quad};
 
-// The kinds of nodes.
-pub(crate) const LETTER: usize = 0;
+// What a node is.
+#[derive(Clone, Copy, Debug, PartialEq, Eq)]
+pub(crate) enum NodeKind {
+    Letter,
+    Joined(Operator),
+    Star,
+    // Above a letter's node, for a production that the letter came through.
+    Named,
+}
 
-pub(crate) const SEQUENCE: usize = 1;
+// An operator between two parts.
+#[derive(Clone, Copy, Debug, PartialEq, Eq)]
+pub(crate) enum Operator {
+    // `,`
+    Sequence,
+    // `||`
+    Choice,
+    // `@`
+    Pipe,
+}
 
-pub(crate) const CHOICE: usize = 2;
+impl NodeKind {
+    // The number that names the kind in a node's first word.
+    pub(crate) fn number(self) -> usize
+        ensures { result ≡ node_number self }
+    {
+        match self {
+            NodeKind::Letter => 0,
+            NodeKind::Joined(operator) => operator.number(),
+            NodeKind::Star => 3,
+            NodeKind::Named => 5,
+        }
+    }
+}
 
-pub(crate) const STAR: usize = 3;
+impl Operator {
+    // The number that names the operator in a node's first word.
+    fn number(self) -> usize
+        ensures { result ≡ operator_number self }
+    {
+        match self {
+            Operator::Sequence => 1,
+            Operator::Choice => 2,
+            Operator::Pipe => 4,
+        }
+    }
+}
 
-pub(crate) const PIPE: usize = 4;
-
-// Above a letter's node, for a production that the letter came through.
-pub(crate) const NAMED: usize = 5;
-
-// An expression that was read: its node among the words (0: none), its letters, counted up to 257, whether it is
+// An expression that was read: its node among the words, its letters, counted up to 257, whether it is
 // nullable, and the first letter at fault for rules 9 and 10: 0 for none, else 1 more than the letter, counted likewise.
+// no plainer as Option: both stand so in a production's cell, four numbers to a word
 #[derive(Clone, Copy)]
 pub(crate) struct Part {
     pub(crate) node: usize,
@@ -47,10 +82,7 @@ fn letters_of_two(left: usize, right: usize) -> usize
     requires { (left ≤ 257) × (right ≤ 257) }
     ensures { (j k : ℕ) → left ≡ counted j → right ≡ counted k → result ≡ counted (j + k) }
 {
-    if 257 < left + right {
-        return 257;
-    }
-    left + right
+    (left + right).min(257)
 }
 
 // The letter at fault in the first of two parts, else in the second, behind the first one's letters.
@@ -64,10 +96,7 @@ fn or_later(first: usize, letters: usize, second: usize) -> usize
     if second == 0 {
         return 0;
     }
-    if 258 < letters + second {
-        return 258;
-    }
-    letters + second
+    (letters + second).min(258)
 }
 
 // The letter at fault in a part that may not be nullable.
@@ -82,25 +111,22 @@ fn unless_nullable(nullable: bool, hollow: usize) -> usize
 }
 
 // Whether two parts with an operator between them are nullable.
-fn nullable_two(kind: usize, left: bool, right: bool) -> bool
-    requires { Operator kind }
-    ensures { (e f : Exp) → left ≡ nullable e → right ≡ nullable f → result ≡ nullable (op_of kind e f) }
+fn nullable_two(operator: Operator, left: bool, right: bool) -> bool
+    ensures { (e f : Exp) → left ≡ nullable e → right ≡ nullable f → result ≡ nullable (op_of (operator_number operator) e f) }
 {
-    if kind == SEQUENCE {
-        return left & right;
+    match operator {
+        Operator::Sequence => left & right,
+        Operator::Choice => left | right,
+        Operator::Pipe => false,
     }
-    if kind == CHOICE {
-        return left | right;
-    }
-    false
 }
 
 // The letter at fault for rule 10 in two parts with an operator between them.
-fn hollow_two(kind: usize, left: Part, right: Part) -> usize
-    requires { Operator kind × Within left × Within right }
-    ensures { (e f : Exp) → Summed left e → Summed right f → result ≡ coded (hollow_at (op_of kind e f)) }
+fn hollow_two(operator: Operator, left: Part, right: Part) -> usize
+    requires { Within left × Within right }
+    ensures { (e f : Exp) → Summed left e → Summed right f → result ≡ coded (hollow_at (op_of (operator_number operator) e f)) }
 {
-    if kind != PIPE {
+    if operator != Operator::Pipe {
         return or_later(left.hollow, left.letters, right.hollow);
     }
     let first = unless_nullable(left.nullable, left.hollow);
@@ -109,31 +135,42 @@ fn hollow_two(kind: usize, left: Part, right: Part) -> usize
 }
 
 // Two parts with an operator between them, whose node is `node`.
-fn two(kind: usize, node: usize, left: Part, right: Part) -> Part
-    requires { Operator kind × Within left × Within right }
-    ensures { SumOf kind left right node result }
+fn two(operator: Operator, node: usize, left: Part, right: Part) -> Part
+    requires { Within left × Within right }
+    ensures { SumOf (operator_number operator) left right node result }
 {
     Part {
         node,
         letters: letters_of_two(left.letters, right.letters),
-        nullable: nullable_two(kind, left.nullable, right.nullable),
+        nullable: nullable_two(operator, left.nullable, right.nullable),
         impossible: or_later(left.impossible, left.letters, right.impossible),
-        hollow: hollow_two(kind, left, right),
+        hollow: hollow_two(operator, left, right),
     }
 }
 
 // What stands before an operator, if anything does, and what stands behind it.
-pub(crate) fn join(words: &mut [u64], free: usize, kind: usize, left: Part, right: Part) -> Made
-    requires { (free + present left ≤ length words.old) × (length words.old ≤ 65535) × Operator kind × ((o : Option Exp) × OptionIs words.old free left o) × ((e : Exp) × PartIs words.old free right e) }
-    ensures { JoinMade words.old free kind left right words.new result.free result.part }
+pub(crate) fn join(
+    words: &mut [u64],
+    free: usize,
+    operator: Operator,
+    before: Option<Part>,
+    right: Part,
+) -> Made
+    requires { (free + present before ≤ length words.old) × (length words.old ≤ 65535) × ((o : Option Exp) × OptionIs words.old free before o) × ((e : Exp) × PartIs words.old free right e) }
+    ensures { JoinMade words.old free (operator_number operator) before right words.new result.free result.part }
 {
-    if left.node == 0 {
+    let Some(left) = before else {
         return Made { free, part: right };
-    }
-    words[free] = quad(kind, left.node, right.node, 0);
+    };
+    words[free] = quad(
+        NodeKind::Joined(operator).number(),
+        left.node,
+        right.node,
+        0,
+    );
     Made {
         free: free + 1,
-        part: two(kind, free, left, right),
+        part: two(operator, free, left, right),
     }
 }
 
@@ -142,15 +179,14 @@ pub(crate) fn starred(words: &mut [u64], free: usize, part: Part) -> Made
     requires { (free + 1 ≤ length words.old) × (length words.old ≤ 65535) × ((e : Exp) × PartIs words.old free part e) }
     ensures { StarMade words.old free part words.new result.free result.part }
 {
-    words[free] = quad(STAR, part.node, 0, 0);
+    words[free] = quad(NodeKind::Star.number(), part.node, 0, 0);
     Made {
         free: free + 1,
         part: Part {
             node: free,
-            letters: part.letters,
             nullable: true,
-            impossible: part.impossible,
             hollow: unless_nullable(part.nullable, part.hollow),
+            ..part
         },
     }
 }
@@ -159,10 +195,7 @@ pub(crate) fn starred(words: &mut [u64], free: usize, part: Part) -> Made
 fn impossible_letter(agrees: bool) -> usize
     ensures { result ≡ coded (cond agrees none (some 0)) }
 {
-    if agrees {
-        return 0;
-    }
-    1
+    usize::from(!agrees)
 }
 
 // A letter of a condition, and of the writes whose last link is `link`.
@@ -170,7 +203,7 @@ pub(crate) fn letter_part(words: &mut [u64], free: usize, q: Condition, link: us
     requires { (free + 3 ≤ length words.old) × (length words.old ≤ 65535) × (1 ≤ free) × (q.link < free) × (link < free) × (q.held < free) }
     ensures { LetterMade words.old free q link words.new result.free result.part }
 {
-    words[free] = quad(LETTER, q.link, link, q.held);
+    words[free] = quad(NodeKind::Letter.number(), q.link, link, q.held);
     words[free + 1] = q.look;
     words[free + 2] = q.want;
     Made {
@@ -189,7 +222,7 @@ pub(crate) fn letter_part(words: &mut [u64], free: usize, q: Condition, link: us
 pub(crate) fn is_letter(kind: usize) -> bool
     ensures { result ≡ letter_kind kind }
 {
-    (kind == LETTER) | (kind == NAMED)
+    (kind == NodeKind::Letter.number()) | (kind == NodeKind::Named.number())
 }
 
 // A part as the expression of the production with a number, which a single letter has come through then.
@@ -199,16 +232,10 @@ pub(crate) fn production_of(words: &mut [u64], free: usize, number: usize, part:
 {
     let node = part.node;
     if is_letter(part0(words[node])) {
-        words[free] = quad(NAMED, node, number, 0);
+        words[free] = quad(NodeKind::Named.number(), node, number, 0);
         return Made {
             free: free + 1,
-            part: Part {
-                node: free,
-                letters: part.letters,
-                nullable: part.nullable,
-                impossible: part.impossible,
-                hollow: part.hollow,
-            },
+            part: Part { node: free, ..part },
         };
     }
     Made { free, part }

@@ -1,24 +1,27 @@
 // The statements of a text one after the other: declarations, and then the monitors up to the end (docs/REFERENCE.md, G2).
 ghost use Rattle.std.specs.Prelude.{◌≡◌, ◌+◌, ◌*◌, ◌≤◌, length};
+ghost use Rattle.lexer.specs.declared.Kind.TheVariants as kind;
+ghost use Rattle.lexer.specs.declared.Word.TheVariants as reserved;
 ghost use Rattle.meaning.specs.Reading.{statement};
 ghost use Rattle.rules.specs.Cells.{Declared as SomeNames};
-ghost use Rattle.rules.specs.Scopes.{Ready, Declares};
+ghost use Rattle.rules.specs.Scopes.{Ready, told_declared, Declares};
 ghost use Rattle.rules.specs.Seen.{Sees};
+ghost use Rattle.rules.specs.Misreads.{fault_in, at_in, or_in};
 ghost use Rattle.rules.specs.Statements.{OneListed, AllListed, Monitored, Stated, TextRead};
 
 use super::declarations::{Declared, Scope, input, store};
 use super::definitions::{define, production};
 use super::limits::limit;
-use super::names::{PRODUCTION, find_kind};
-use super::tokens::{DEFINE, END, INPUT, INTERNAL, LIMIT, MONITOR, NAME, Seen, see};
-use lexer::{COMMA, SEMICOLON};
+use super::names::{NameKind, find_kind};
+use super::tokens::{Misread, see};
+use lexer::{Kind, Sign, Token, Word};
+use refusals::Refusal;
 
 // ---- monitors
 
-// How many monitors are listed, and where to read on; or a refusal.
+// How many monitors are listed, and where to read on.
 #[derive(Drop)]
 pub(crate) struct MonitorList {
-    pub(crate) fault: u8,
     pub(crate) at: usize,
     pub(crate) count: usize,
 }
@@ -31,32 +34,20 @@ fn one_monitor(
     at: usize,
     list: &mut [u16; 32],
     count: usize,
-) -> MonitorList
+) -> Result<MonitorList, Misread>
     requires { SomeNames text.now words.now last × (length words.now ≤ 65535) × (length list.old ≡ 32) }
-    ensures { OneListed text.now words.now last at list.old count result.fault result.at list.new result.count × (length list.new ≡ length list.old) }
+    ensures { OneListed text.now words.now last at list.old count (fault_in result) (at_in (λ m. m.at) result) list.new (or_in (λ m. m.count) count result) × (length list.new ≡ length list.old) }
 {
     let t = see(text, at);
-    let p = find_kind(text, words, last, t, PRODUCTION);
-    if p.fault != 0 {
-        return MonitorList {
-            fault: p.fault,
-            at: t.place,
-            count,
-        };
-    }
+    let cell = find_kind(text, words, last, t, NameKind::Production)?;
     if 32 <= count {
-        return MonitorList {
-            fault: 7,
-            at: t.place,
-            count,
-        };
+        return Err(Misread::refused(t, Refusal::Crowded));
     }
-    list[count] = p.cell as u16;
-    MonitorList {
-        fault: 0,
+    list[count] = cell as u16;
+    Ok(MonitorList {
         at: t.after,
         count: count + 1,
-    }
+    })
 }
 
 // The monitors' names up to behind `;`.
@@ -66,31 +57,23 @@ fn all_monitors(
     last: usize,
     at: usize,
     list: &mut [u16; 32],
-) -> MonitorList
+) -> Result<MonitorList, Misread>
     requires { SomeNames text.now words.now last × (length words.now ≤ 65535) × (length list.old ≡ 32) }
-    ensures { AllListed text.now words.now last at result.fault result.at list.new result.count × (length list.new ≡ length list.old) }
+    ensures { AllListed text.now words.now last at (fault_in result) (at_in (λ m. m.at) result) list.new (or_in (λ m. m.count) 0 result) × (length list.new ≡ length list.old) }
 {
     let mut next = at;
     let mut count: usize = 0;
     loop {
-        let m = one_monitor(text, words, last, next, list, count);
-        if m.fault != 0 {
-            return m;
-        }
+        let m = one_monitor(text, words, last, next, list, count)?;
         let t = see(text, m.at);
-        if t.kind == SEMICOLON {
-            return MonitorList {
-                fault: 0,
+        if t.kind == Kind::Sign(Sign::Semicolon) {
+            return Ok(MonitorList {
                 at: t.after,
                 count: m.count,
-            };
+            });
         }
-        if t.kind != COMMA {
-            return MonitorList {
-                fault: t.fault,
-                at: t.place,
-                count: m.count,
-            };
+        if t.kind != Kind::Sign(Sign::Comma) {
+            return Err(Misread::misplaced(t));
         }
         next = t.after;
         count = m.count;
@@ -104,23 +87,16 @@ pub(crate) fn monitors(
     last: usize,
     at: usize,
     list: &mut [u16; 32],
-) -> MonitorList
+) -> Result<MonitorList, Misread>
     requires { SomeNames text.now words.now last × (length words.now ≤ 65535) × (length list.old ≡ 32) }
-    ensures { Monitored text.now words.now last at result.fault result.at list.new result.count × (length list.new ≡ length list.old) }
+    ensures { Monitored text.now words.now last at (fault_in result) (at_in (λ m. m.at) result) list.new (or_in (λ m. m.count) 0 result) × (length list.new ≡ length list.old) }
 {
-    let m = all_monitors(text, words, last, at, list);
-    if m.fault != 0 {
-        return m;
-    }
+    let m = all_monitors(text, words, last, at, list)?;
     let t = see(text, m.at);
-    if t.kind != END {
-        return MonitorList {
-            fault: t.fault,
-            at: t.place,
-            count: m.count,
-        };
+    if t.kind != Kind::End {
+        return Err(Misread::misplaced(t));
     }
-    m
+    Ok(m)
 }
 
 // ---- declarations
@@ -133,50 +109,36 @@ fn one_statement(
     scope: Scope,
     free: usize,
     at: usize,
-    t: Seen,
-) -> Declared
-    requires { Ready text.now words.old kept.old at free scope × Sees text.now at t × (t.kind ≡ 23 → ⊥) }
-    ensures { Declares text.now statement words.old kept.old at free scope result words.new kept.new }
+    t: Token,
+) -> Result<Declared, Misread>
+    requires { Ready text.now words.old kept.old at free scope × Sees text.now at t × (t.kind ≡ kind.Word reserved.Monitor → ⊥) }
+    ensures { Declares text.now statement words.old kept.old at free scope (told_declared free scope result) words.new kept.new }
 {
-    if t.kind == INPUT {
-        return input(text, words, scope, free, t.after);
-    }
-    if t.kind == INTERNAL {
-        return store(text, words, kept, scope, free, t.after);
-    }
-    if t.kind == DEFINE {
-        return define(text, words, scope, free, t.after);
-    }
-    if t.kind == NAME {
-        return production(text, words, scope, free, at);
-    }
-    if t.kind == LIMIT {
-        if 8 <= scope.limits {
-            return Declared {
-                fault: 7,
-                at: t.place,
-                free,
-                scope,
-            };
-        }
-        return limit(text, words, kept, scope, free, t.after);
-    }
-    Declared {
-        fault: t.fault,
-        at: t.place,
-        free,
-        scope,
+    match t.kind {
+        Kind::Name => production(text, words, scope, free, at),
+        Kind::Word(word) => match word {
+            Word::Input => input(text, words, scope, free, t.after),
+            Word::Internal => store(text, words, kept, scope, free, t.after),
+            Word::Define => define(text, words, scope, free, t.after),
+            Word::Limit => {
+                if 8 <= scope.limits {
+                    return Err(Misread::refused(t, Refusal::Crowded));
+                }
+                limit(text, words, kept, scope, free, t.after)
+            }
+            _ => Err(Misread::misplaced(t)),
+        },
+        _ => Err(Misread::misplaced(t)),
     }
 }
 
 // The declarations of a text, up to behind `monitor`. Kept are the first values of 16 stores, and then a word for each of 8
 // limits.
-fn statements(text: &[u8], words: &mut [u64], kept: &mut [u64; 24]) -> Declared
+fn statements(text: &[u8], words: &mut [u64], kept: &mut [u64; 24]) -> Result<Declared, Misread>
     requires { (length text.now ≤ 16384) × (3 * length text.now + 2 ≤ length words.old) × (length words.old ≤ 65535) × (length kept.old ≡ 24) }
     ensures { Stated text.now words.old kept.old result words.new kept.new }
 {
     let mut d = Declared {
-        fault: 0,
         at: 0,
         free: 1,
         scope: Scope {
@@ -188,30 +150,19 @@ fn statements(text: &[u8], words: &mut [u64], kept: &mut [u64; 24]) -> Declared
         },
     };
     loop {
-        let scope = d.scope;
         let t = see(text, d.at);
-        if t.kind == MONITOR {
-            return Declared {
-                fault: 0,
-                at: t.after,
-                free: d.free,
-                scope,
-            };
+        if t.kind == Kind::Word(Word::Monitor) {
+            return Ok(Declared { at: t.after, ..d });
         }
-        d = one_statement(text, words, kept, scope, d.free, d.at, t);
-        if d.fault != 0 {
-            return d;
-        }
+        d = one_statement(text, words, kept, d.scope, d.free, d.at, t)?;
     }
 }
 
 // ---- a text
 
-// What a text says: how many of the words it takes, its wires, stores, limits and monitors; or a refusal.
+// What a text says: how many of the words it takes, its wires, stores, limits and monitors.
 #[derive(Drop)]
 pub(crate) struct Reading {
-    pub(crate) fault: u8,
-    pub(crate) at: usize,
     pub(crate) free: usize,
     pub(crate) wires: usize,
     pub(crate) stores: usize,
@@ -225,32 +176,18 @@ pub(crate) fn read(
     words: &mut [u64],
     kept: &mut [u64; 24],
     list: &mut [u16; 32],
-) -> Reading
+) -> Result<Reading, Misread>
     requires { (length text.now ≤ 16384) × (3 * length text.now + 2 ≤ length words.old) × (length words.old ≤ 65535) × (length kept.old ≡ 24) × (length list.old ≡ 32) }
-    ensures { TextRead text.now result.fault result.at result.free result.wires result.stores result.limits result.count words.new kept.new list.new
+    ensures { TextRead text.now result words.new kept.new list.new
         × (length words.new ≡ length words.old) × (length kept.new ≡ length kept.old) × (length list.new ≡ length list.old) }
 {
-    let d = statements(text, words, kept);
-    let scope = d.scope;
-    if d.fault != 0 {
-        return Reading {
-            fault: d.fault,
-            at: d.at,
-            free: d.free,
-            wires: 0,
-            stores: 0,
-            limits: 0,
-            count: 0,
-        };
-    }
-    let m = monitors(text, words, scope.last, d.at, list);
-    Reading {
-        fault: m.fault,
-        at: m.at,
+    let d = statements(text, words, kept)?;
+    let m = monitors(text, words, d.scope.last, d.at, list)?;
+    Ok(Reading {
         free: d.free,
-        wires: scope.wires,
-        stores: scope.stores,
-        limits: scope.limits,
+        wires: d.scope.wires,
+        stores: d.scope.stores,
+        limits: d.scope.limits,
         count: m.count,
-    }
+    })
 }

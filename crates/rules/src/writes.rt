@@ -1,24 +1,24 @@
 // The writes of a letter: `{`, one or more of `store <- value;`, `}`.
-ghost use Rattle.std.specs.Prelude.{◌≡◌, ℕ, ◌<◌, ◌≤◌};
+ghost use Rattle.std.specs.Prelude.{IfOk, ℕ, ◌<◌, ◌≤◌};
 ghost use Rattle.meaning.specs.Reading.{write_value};
 ghost use Rattle.meaning.specs.Names.{Names};
 ghost use Rattle.rules.specs.Seen.{Sees};
 ghost use Rattle.rules.specs.Reads.{read_from};
-ghost use Rattle.rules.specs.Tasks.{Writing, Writes, RestWritten, AllWritten};
+ghost use Rattle.rules.specs.Tasks.{Writing, WriteRead, RestRead, WritesRead};
 ghost use Rattle.rules.specs.Written.{by_wire, by_written};
 ghost use Rattle.rules.specs.Conditions.{Room};
 ghost use Rattle.rules.specs.Cells.{Cells};
 
 use super::literals::{largest, with_link};
-use super::names::{STORE, WIRE, find_kind};
-use super::tokens::{NUMBER, Seen, see, sign};
-use lexer::{LEFT_ARROW, RIGHT_BRACE, SEMICOLON};
+use super::names::{NameKind, find_kind};
+use super::tokens::{Misread, see, sign};
+use lexer::{Kind, Sign, Token};
+use refusals::Refusal;
 use words::{part0, part1};
 
-// How many writes there are, the last of their links, and where to read on; or a refusal.
+// How many writes there are, the last of their links, and where to read on.
 #[derive(Drop)]
 pub(crate) struct Written {
-    pub(crate) fault: u8,
     pub(crate) at: usize,
     pub(crate) free: usize,
     pub(crate) count: usize,
@@ -35,41 +35,24 @@ fn write_wire(
     link: usize,
     store: usize,
     width: usize,
-    t: Seen,
-) -> Written
+    t: Token,
+) -> Result<Written, Misread>
     requires { Writing text.now words.old t.place free last count link × (count ≤ 1) × (store < 16) × (width ≤ 64) × ((pos : ℕ) × Sees text.now pos t) }
-    ensures { Writes text.now words.old t.place free last count link (by_wire text.now t store width) result.fault result.at result.free result.count result.link words.new }
+    ensures { WriteRead text.now words.old t.place free last count link (by_wire text.now t store width) result words.new }
 {
-    let w = find_kind(text, words, last, t, WIRE);
-    if w.fault != 0 {
-        return Written {
-            fault: w.fault,
-            at: t.place,
-            free,
-            count,
-            link,
-        };
-    }
-    let cell = w.cell;
+    let cell = find_kind(text, words, last, t, NameKind::Wire)?;
     let what = words[cell + 1];
     if part1(what) != width {
-        return Written {
-            fault: 6,
-            at: t.place,
-            free,
-            count,
-            link,
-        };
+        return Err(Misread::refused(t, Refusal::Oversize));
     }
     let l = with_link(words, free, count, link, store, part0(what), width, 0);
-    let end = sign(text, t.after, SEMICOLON);
-    Written {
-        fault: end.fault,
-        at: end.at,
+    let end = sign(text, t.after, Sign::Semicolon)?;
+    Ok(Written {
+        at: end,
         free: l.free,
         count: l.tests,
         link: l.link,
-    }
+    })
 }
 
 // What is written, behind `store <-`, and `;`.
@@ -83,32 +66,25 @@ fn write_value(
     link: usize,
     store: usize,
     width: usize,
-) -> Written
+) -> Result<Written, Misread>
     requires { Writing text.now words.old at free last count link × (count ≤ 1) × (store < 16) × (width ≤ 64) }
-    ensures { Writes text.now words.old at free last count link (λ ns x ws. read_from text.now at ns (write_value x.within x.literals ws store width)) result.fault result.at result.free result.count result.link words.new }
+    ensures { WriteRead text.now words.old at free last count link (λ ns x ws. read_from text.now at ns (write_value x.within x.literals ws store width)) result words.new }
 {
     let t = see(text, at);
-    if t.kind != NUMBER {
+    let Kind::Number(value) = t.kind else {
         return write_wire(text, words, last, free, count, link, store, width, t);
+    };
+    if largest(width) < value {
+        return Err(Misread::refused(t, Refusal::Oversize));
     }
-    if largest(width) < t.value {
-        return Written {
-            fault: 6,
-            at: t.place,
-            free,
-            count,
-            link,
-        };
-    }
-    let l = with_link(words, free, count, link, store, 0, 0, t.value);
-    let end = sign(text, t.after, SEMICOLON);
-    Written {
-        fault: end.fault,
-        at: end.at,
+    let l = with_link(words, free, count, link, store, 0, 0, value);
+    let end = sign(text, t.after, Sign::Semicolon)?;
+    Ok(Written {
+        at: end,
         free: l.free,
         count: l.tests,
         link: l.link,
-    }
+    })
 }
 
 // One write: its store, `<-`, what is written, `;`.
@@ -119,48 +95,23 @@ fn write_one(
     free: usize,
     count: usize,
     link: usize,
-    t: Seen,
-) -> Written
+    t: Token,
+) -> Result<Written, Misread>
     requires { Writing text.now words.old t.place free last count link × ((pos : ℕ) × Sees text.now pos t) }
-    ensures { Writes text.now words.old t.place free last count link (by_written text.now t) result.fault result.at result.free result.count result.link words.new × (result.fault ≡ 0 → t.place < result.at) }
+    ensures { WriteRead text.now words.old t.place free last count link (by_written text.now t) result words.new × IfOk result (λ w. t.place < w.at) }
 {
-    let s = find_kind(text, words, last, t, STORE);
-    if s.fault != 0 {
-        return Written {
-            fault: s.fault,
-            at: t.place,
-            free,
-            count,
-            link,
-        };
-    }
+    let cell = find_kind(text, words, last, t, NameKind::Store)?;
     if 2 <= count {
-        return Written {
-            fault: 7,
-            at: t.place,
-            free,
-            count,
-            link,
-        };
+        return Err(Misread::refused(t, Refusal::Crowded));
     }
-    let arrow = sign(text, t.after, LEFT_ARROW);
-    if arrow.fault != 0 {
-        return Written {
-            fault: arrow.fault,
-            at: arrow.at,
-            free,
-            count,
-            link,
-        };
-    }
-    let cell = s.cell;
+    let arrow = sign(text, t.after, Sign::LeftArrow)?;
     let what = words[cell + 1];
     write_value(
         text,
         words,
         last,
         free,
-        arrow.at,
+        arrow,
         count,
         link,
         part0(what),
@@ -177,12 +128,11 @@ fn more_writes(
     at: usize,
     count: usize,
     link: usize,
-) -> Written
+) -> Result<Written, Misread>
     requires { Writing text.now words.old at free last count link }
-    ensures { RestWritten text.now words.old at free last count link result.fault result.at result.free result.count result.link words.new }
+    ensures { RestRead text.now words.old at free last count link result words.new }
 {
     let mut w = Written {
-        fault: 0,
         at,
         free,
         count,
@@ -190,31 +140,25 @@ fn more_writes(
     };
     loop {
         let t = see(text, w.at);
-        if t.kind == RIGHT_BRACE {
-            return Written {
-                fault: 0,
-                at: t.after,
-                free: w.free,
-                count: w.count,
-                link: w.link,
-            };
+        if t.kind == Kind::Sign(Sign::RightBrace) {
+            return Ok(Written { at: t.after, ..w });
         }
-        w = write_one(text, words, last, w.free, w.count, w.link, t);
-        if w.fault != 0 {
-            return w;
-        }
+        w = write_one(text, words, last, w.free, w.count, w.link, t)?;
     }
 }
 
 // The writes behind `{`, up to behind `}`.
-pub(crate) fn writes(text: &[u8], words: &mut [u64], last: usize, free: usize, at: usize) -> Written
+pub(crate) fn writes(
+    text: &[u8],
+    words: &mut [u64],
+    last: usize,
+    free: usize,
+    at: usize,
+) -> Result<Written, Misread>
     requires { Room text.now words.old at free × ((ns : Names) × Cells text.now words.old free last ns.declared) }
-    ensures { AllWritten text.now words.old at free last result.fault result.at result.free result.count result.link words.new }
+    ensures { WritesRead text.now words.old at free last result words.new }
 {
     let t = see(text, at);
-    let w = write_one(text, words, last, free, 0, 0, t);
-    if w.fault != 0 {
-        return w;
-    }
+    let w = write_one(text, words, last, free, 0, 0, t)?;
     more_writes(text, words, last, w.free, w.at, w.count, w.link)
 }

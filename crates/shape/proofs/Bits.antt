@@ -4,19 +4,24 @@ use mathlib.Core.List.{List}
 use mathlib.Core.Path.{◌≡◌, refl, sym, ap, ap₂, ◌∙◌, subst}
 use Prim.Native.Nat.{ℕ, zero, suc, ◌+◌, ◌*◌, ◌-◌, ◌/◌, ◌%◌, ◌^◌, ◌≤◌, ◌<◌}
 use native.Mathlib.Omega.{arith}
-use native.Mathlib.Nat.{le_dest, div-one}
+use native.Mathlib.Nat.{le_dest}
 use native.Mathlib.Decide.{dec_lt}
 use lib.Dec.{eqb}
 use lib.ListN.{length, get_or, get_or-eq_default}
 use lib.Bits.{bit_and, bit_or, bit_xor, and_zero_l}
-use lib.Pow.{shl_exact, field, mod-mod-pow, shr-shr}
+use lib.Pow.{shl_exact, field, mod-mod-pow}
 use borrow.Author.Tests.{eqb-true, eqb-false, eq-eqb, ne_eqb}
+use Rattle.std.proofs.Common.{w64}
+use Rattle.std.specs.Int.Count.{count_trailing_zeros, trailing_of_zero}
+use Rattle.std.proofs.lemmas.Nat.Bits.{bit_at-trailing_zeros}
 use Rattle.meaning.specs.Expression.{bit}
 use Rattle.masks.specs.Masks.{compatible}
 use Rattle.masks.proofs.BitLaws.{Bit, off, on, bit_is, bit-and, bit-or, bit-xor, bit_below, bit-above, bit-over, bit-ones, zero_bit}
 use Rattle.masks.proofs.Masks.{compatible-apart}
 use Rattle.shape.specs.Sets.{has, Passing}
 use Rattle.shape.specs.Sides.{rivals}
+use Rattle.shape.specs.Lowest.{lowest}
+use Rattle.shape.proofs.Lowest.{lowest-at, lowest-none}
 
 -- ---- single bits
 
@@ -158,21 +163,37 @@ met look want i j p q r s = rw (p, q, r, s)
 pub unmasked : (look want : List ℕ) (i j : ℕ) → length look ≤ i → rivals look want i j ≡ true
 unmasked look want i j h = rw (get_or-eq_default look 0 {n = i} h) (compatible-apart 0 (get_or want i 0) (get_or look j 0) (get_or want j 0) (and_zero_l (get_or look j 0)))
 
--- ---- letter by letter from the lowest on: what is left of a set
+-- ---- the lowest letter of a set
 
-module _ (set rest i f : ℕ) (is-rest : rest ≡ set / 2 ^ (i - f)) where
-  pub rest_has : rest % 2 ≡ 1 → has (i - f) set ≡ true
+module _ (set first : ℕ) (fits : set < 2 ^ 64) where
+  at : (j : ℕ) → first + j - first ≡ j
+  at j = omega arith
+
+  has-at : (j : ℕ) → bit j set ≡ 1 → has (first + j - first) set ≡ true
   unfolding has
-  rest_has h = eq-eqb (bit (i - f) set) 1 (ap (λ (n : ℕ). n % 2) (sym is-rest) ∙ h)
+  has-at j p = rw (at j) (eq-eqb (bit j set) 1 p)
 
-  pub rest-lacks : (rest % 2 ≡ 1 → ⊥) → has (i - f) set ≡ false
+  lacks-at : (j : ℕ) → bit j set ≡ 0 → has (first + j - first) set ≡ false
   unfolding has
-  rest-lacks h = ne_eqb (bit (i - f) set) 1 (λ p. h (ap (λ (n : ℕ). n % 2) is-rest ∙ p))
+  lacks-at j p = rw (at j) (ne_eqb (bit j set) 1 (λ q. omega arith))
 
-  pub rest-next : f ≤ i → rest / 2 ≡ set / 2 ^ (i + 1 - f)
-  rest-next h =
-      let e : i - f + 1 ≡ i + 1 - f = omega arith in
-      ap (λ (n : ℕ). n / 2) is-rest ∙ shr-shr set (i - f) 1 ∙ ap (λ (k : ℕ). set / 2 ^ k) e
+  -- the place of its lowest bit
+  pub lowest_bit : (n : ℕ) → n ≤ 64 → count_trailing_zeros 64 set < n → first + count_trailing_zeros 64 set ≡ lowest (λ i. has (i - first) set) first n
+  lowest_bit n small h =
+      let some : 0 < set = positive set h in
+      let (inside, stands, lacks) = bit_at-trailing_zeros w64 set some fits in
+      sym (lowest-at (λ i. has (i - first) set) first n (count_trailing_zeros 64 set) h (has-at (count_trailing_zeros 64 set) stands) (λ j l. lacks-at j (lacks j l)))
+    where
+      positive : (s : ℕ) → count_trailing_zeros 64 s < n → 0 < s
+      positive zero l = absurd (omega (arith, trailing_of_zero 64))
+      positive (suc s) l = omega arith
 
-pub rest_all : (set f : ℕ) → set ≡ set / 2 ^ (f - f)
-rest_all set f = let e : f - f ≡ 0 = omega arith in rw e (sym (div-one set))
+  -- it has none of the first letters
+  pub no_bit : (stop : ℕ) → stop ≤ first + 64 → stop - first ≤ count_trailing_zeros 64 set → stop ≤ lowest (λ i. has (i - first) set) first (stop - first)
+  no_bit stop small h = omega (arith, lowest-none (λ i. has (i - first) set) first (stop - first) (λ j l. lacks-at j (off j (omega arith))))
+    where
+      off : (j : ℕ) → j < count_trailing_zeros 64 set → bit j set ≡ 0
+      off j l = elim (dec_lt 0 set) [
+        | yes some ↦ (bit_at-trailing_zeros w64 set some fits).2 j l
+        | no none ↦ let e : set ≡ 0 = omega arith in rw e (zero_bit j)
+      ]

@@ -1,12 +1,12 @@
 -- The lowest number that passes a test: a step of the search. Assumes nothing.
 use mathlib.Core.Bool.{Bool, true, false, cond}
-use mathlib.Core.Path.{◌≡◌, ap, ◌∙◌}
+use mathlib.Core.Path.{◌≡◌, sym, ◌∙◌}
 use Prim.Native.Nat.{ℕ, zero, suc, ◌+◌, ◌-◌, ◌≤◌, ◌<◌}
 use native.Mathlib.Omega.{arith}
 use Rattle.shape.specs.Lowest.{lowest}
 
 -- it is none of the numbers before
-not-before : (test : ℕ → Bool) (i n : ℕ) → i ≤ lowest test i n
+pub not-before : (test : ℕ → Bool) (i n : ℕ) → i ≤ lowest test i n
 unfolding lowest
 not-before test i zero = omega arith
 not-before test i (suc n) = by (test i) (not-before test (suc i) n)
@@ -23,15 +23,27 @@ module _ (test : ℕ → Bool) (i end : ℕ) where
   unfolding lowest
   lowest-end h = let e : end - i ≡ 0 = omega arith in rw e
 
-  step : i < end → lowest test i (end - i) ≡ cond (test i) i (lowest test (i + 1) (end - (i + 1)))
-  unfolding lowest
-  step h =
-      let e : end - i ≡ suc (end - (i + 1)) = omega arith in
-      let f : suc i ≡ i + 1 = omega arith in
-      ap (lowest test i) e ∙ ap (λ (j : ℕ). cond (test i) i (lowest test j (end - (i + 1)))) f
+moved : (i j : ℕ) → i + suc j ≡ suc i + j
+moved i j = omega arith
 
-  pub lowest-here : i < end → test i ≡ true → lowest test i (end - i) ≡ i
-  lowest-here h p = step h ∙ rw p
+-- the place of the first that passes, and none
+pub lowest-at : (test : ℕ → Bool) (i n k : ℕ) → k < n → test (i + k) ≡ true → ((j : ℕ) → j < k → test (i + j) ≡ false) → lowest test i n ≡ i + k
+unfolding lowest
+lowest-at test i zero k h p q = absurd (omega arith)
+lowest-at test i (suc n) zero h p q =
+    let e : i + 0 ≡ i = omega arith in
+    let f : test i ≡ true = rw e at p in
+    rw (f, e)
+lowest-at test i (suc n) (suc k) h p q =
+    let e : i + 0 ≡ i = omega arith in
+    let f : test i ≡ false = rw e at (q 0 (omega arith)) in
+    rw f (lowest-at test (suc i) n k (omega arith) (rw (moved i k) at p) (λ j l. rw (moved i j) at (q (suc j) (omega arith))) ∙ sym (moved i k))
 
-  pub lowest-next : i < end → test i ≡ false → lowest test i (end - i) ≡ lowest test (i + 1) (end - (i + 1))
-  lowest-next h p = step h ∙ rw p
+pub lowest-none : (test : ℕ → Bool) (i n : ℕ) → ((j : ℕ) → j < n → test (i + j) ≡ false) → i + n ≤ lowest test i n
+unfolding lowest
+lowest-none test i zero q = omega arith
+lowest-none test i (suc n) q =
+    let e : i + 0 ≡ i = omega arith in
+    let f : test i ≡ false = rw e at (q 0 (omega arith)) in
+    let rest = lowest-none test (suc i) n (λ j l. rw (moved i j) at (q (suc j) (omega arith))) in
+    rw f (omega (arith, rest))

@@ -1,12 +1,12 @@
 -- What `judge` answers, and what that says of a monitor (docs/REFERENCE.md, S12, S13 and X10). Assumes nothing.
-use Rattle.std.specs.Prelude.{cond, List, ℕ, ◌-◌, ltb}
+use Rattle.std.specs.Prelude.{Result, Ok, Err, cond, List, ℕ, ◌-◌, ltb}
 use Rattle.refusals.specs.Numbers.{open_end, fork}
 use Rattle.meaning.specs.ShapeTests.{Shape, accepted, turned_away}
 use Rattle.shape.specs.Ends.{open_at}
 use Rattle.shape.specs.Sides.{fork_at}
 use Rattle.shape.specs.Lowest.{lowest}
-use Rattle.shape.specs.declared.Judged.{Judged}
-use Rattle.shape.specs.declared.Judged.TheVariants.{Fine, OpenEnd, Fork}
+use Rattle.shape.specs.declared.Fault.{Fault}
+use Rattle.shape.specs.declared.Fault.TheVariants.{OpenEnd, Fork}
 
 -- a letter below the end is at fault by a rule, by its number from the first on; else the rest
 abbrev pub or_rest : (first end : ℕ) → (rule letter : ℕ) → Shape → Shape
@@ -18,8 +18,8 @@ judge_of kind left right look want row first end =
     or_rest first end open_end (lowest (open_at kind left right row) first (end - first))
     (or_rest first end fork (lowest (fork_at kind left right look want row) first (end - first)) accepted)
 
--- what an answer of the code says: the rule and the letter, or that both are kept
-abbrev pub shown_judged : Judged → Shape
-shown_judged Fine = accepted
-shown_judged (OpenEnd n) = turned_away open_end n
-shown_judged (Fork n) = turned_away fork n
+-- what an answer of the code says: that both rules are kept, or the rule and the letter
+abbrev pub shown_judged : Result Unit Fault → Shape
+shown_judged (Ok kept) = accepted
+shown_judged (Err (OpenEnd letter)) = turned_away open_end letter
+shown_judged (Err (Fork letter)) = turned_away fork letter

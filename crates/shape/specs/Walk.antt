@@ -1,6 +1,8 @@
 -- A walk over the rows of a table that makes of each row what its kind and its operands make of it. Assumes nothing.
-use Rattle.std.specs.Prelude.{cond, List, map, ℕ, zero, suc, eqb, get_or}
+use Rattle.std.specs.Prelude.{◌≡◌, ◌≢◌, cond, List, map, ℕ, zero, suc, eqb, get_or}
 use Rattle.words.specs.Words.{part0, part1, part2}
+use Rattle.words.specs.declared.rows.RowKind.{RowKind}
+use Rattle.words.specs.declared.rows.RowKind.TheVariants.{Letter, Sequence, Alternative, Star, Pipe}
 
 -- The rows of a table, each of which is a word: their kinds; their left operands' rows, or for a letter its index; their right operands' rows.
 abbrev pub kinds : List ℕ → List ℕ
@@ -11,6 +13,14 @@ lefts T = map part1 T
 
 abbrev pub rights : List ℕ → List ℕ
 rights T = map part2 T
+
+-- what a row is by its kind, where one of no kind counts as an `@`
+abbrev pub CountsAs : RowKind → ℕ → Type 0
+CountsAs Letter k = k ≡ 0
+CountsAs Sequence k = k ≡ 1
+CountsAs Alternative k = k ≡ 2
+CountsAs Star k = k ≡ 3
+CountsAs Pipe k = (k ≢ 0) × (k ≢ 1) × (k ≢ 2) × (k ≢ 3)
 
 -- by a row's kind: 0 a letter, 3 `*`, else an operator of two operands
 abbrev pub by_kind : {A : Type 0} → ℕ → (letter star two : A) → A

@@ -8,16 +8,18 @@ ghost use Rattle.shape.specs.Judge.{judge_of, shown_judged};
 mod ends;
 mod sets;
 mod sides;
+mod walk;
 
-// What the two rules answer: the letter at fault by its number in the monitor, or none.
-#[derive(Clone, Copy)]
-pub enum Judged {
-    Fine,
+/// Which of the two rules a monitor breaks, and the letter at fault by its number in the monitor.
+#[derive(Clone, Copy, Debug, PartialEq, Eq)]
+pub enum Fault {
+    // It ends a thread and can also be followed inside it.
     OpenEnd(usize),
+    // It stands side by side with a letter that some word meets together with it.
     Fork(usize),
 }
 
-// Judges the monitor whose own row is `row`. Its letters are those from `first` on and below `end`, of all that the table has.
+/// Judges the monitor whose own row is `row`. Its letters are those from `first` on and below `end`, of all that the table has.
 pub fn judge(
     table: &[u64; 1024],
     look: &[u64; 256],
@@ -25,16 +27,14 @@ pub fn judge(
     row: usize,
     first: usize,
     end: usize,
-) -> Judged
+) -> Result<(), Fault>
     ensures { shown_judged result ≡ judge_of (kinds table.now) (lefts table.now) (rights table.now) look.now want.now row first end }
 {
-    let open = ends::lowest_open(table, row, first, end);
-    if open < end {
-        return Judged::OpenEnd(open - first);
+    if let Some(open) = ends::lowest_open(table, row, first, end) {
+        return Err(Fault::OpenEnd(open - first));
     }
-    let fork = sides::lowest_fork(table, look, want, row, first, end);
-    if fork < end {
-        return Judged::Fork(fork - first);
+    if let Some(fork) = sides::lowest_fork(table, look, want, row, first, end) {
+        return Err(Fault::Fork(fork - first));
     }
-    Judged::Fine
+    Ok(())
 }

@@ -1,8 +1,8 @@
 // Sets of letters that stand one behind the other, 64 at most: bit x of a word is for the letter x places behind the first.
 
-ghost use Rattle.std.specs.Prelude.{not, ◌&&◌, ◌≡◌, ℕ, ◌+◌, ◌-◌, ◌≤◌, ◌<◌, eqb};
+ghost use Rattle.std.specs.Prelude.{Bool, not, ◌&&◌, ◌≡◌, ℕ, ◌+◌, ◌-◌, ◌≤◌, ◌<◌, eqb};
 ghost use Rattle.shape.specs.Sets.{has, Passing};
-ghost use Rattle.shape.specs.Lowest.{lowest};
+ghost use Rattle.shape.specs.Lowest.{Lowest};
 
 // The set, if the test holds.
 pub(crate) fn kept(test: bool, set: u64) -> u64
@@ -40,29 +40,34 @@ pub(crate) fn in_front(test: bool, set: u64) -> u64
     if test { moved | 1 } else { moved }
 }
 
-// The lowest letter of a set, whose letters are those from `first` on, or the first that is not below `stop`.
-pub(crate) fn lowest_in(set: u64, first: usize, stop: usize) -> usize
-    ensures { result ≡ lowest (λ i. has (i - first) set) first (stop - first) }
+// The lowest letter of a set, whose letters are those from `first` on, if one is below `stop`.
+fn lowest_in(set: u64, first: usize, stop: usize) -> Option<usize>
+    requires { (first < stop) × (stop ≤ first + 64) }
+    ensures { Lowest (λ i. has (i - first) set) first stop result }
 {
-    let mut rest = set;
-    let mut i = first;
-    while i < stop {
-        if rest % 2 == 1 {
-            return i;
-        }
-        rest = rest / 2;
-        i += 1;
+    let place = set.trailing_zeros() as usize;
+    if place < stop - first {
+        Some(first + place)
+    } else {
+        None
     }
-    i
 }
 
-// Where a set of the letters from `first` on stops: behind 64 of them, or at `end`.
-pub(crate) fn stop_of(first: usize, end: usize) -> usize
-    requires { first < end }
-    ensures { (first < result) × (result ≤ first + 64) × (result ≤ end) }
+// The lowest letter from `first` on and below `end` that passes a test: `passing` has those that pass, of the letters from one on and below another.
+pub(crate) fn lowest_by<F: Fn(usize, usize) -> u64>(
+    first: usize,
+    end: usize,
+    passing: F,
+) -> Option<usize>
+    requires { F.IsAlwaysCallable passing }
+    ensures { (test : ℕ → Bool) → ((from stop set : ℕ) → F.post passing from stop set → stop ≤ from + 64 → Passing test from stop set) → Lowest test first end result }
 {
-    if end - first <= 64 {
-        return end;
+    for from in (first..end).step_by(64) {
+        let stop = from + (end - from).min(64);
+        let set = passing(from, stop);
+        if let Some(letter) = lowest_in(set, from, stop) {
+            return Some(letter);
+        }
     }
-    first + 64
+    None
 }

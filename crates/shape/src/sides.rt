@@ -2,15 +2,16 @@
 // where it stands side by side with a rival. What a part has of both is made of what its operands have of them, and is made for up to 64 letters at a time, with a set in place of
 // each test.
 
-ghost use Rattle.std.specs.Prelude.{not, ◌&&◌, ◌≡◌, ℕ, ◌+◌, ◌-◌, ◌≤◌, ◌<◌, eqb};
+ghost use Rattle.std.specs.Prelude.{not, ◌&&◌, ◌≡◌, ℕ, ◌+◌, ◌≤◌, ◌<◌, false, eqb};
 ghost use Rattle.shape.specs.Walk.{kinds, lefts, rights};
 ghost use Rattle.shape.specs.Sets.{has, Passing};
-ghost use Rattle.shape.specs.Sides.{letter_sides, linked, seq_sides, alt_sides, star_sides, pipe_sides, joined_sides, rivals, sides_of, sides_at, fork_at};
-ghost use Rattle.shape.specs.Lowest.{lowest};
+ghost use Rattle.shape.specs.Sides.{Sides, letter_sides, linked, seq_sides, alt_sides, star_sides, pipe_sides, rivals, sides_of, fork_at};
+ghost use Rattle.shape.specs.Lowest.{Lowest};
 
-use super::sets::{in_front, kept, lowest_in, one, stop_of, without};
+use super::sets::{in_front, kept, lowest_by, one, without};
+use super::walk::{Summary, walk};
 use masks::compatible;
-use words::{part0, part1, part2, word_at};
+use words::word_at;
 
 // What a part has of letters and their rivals: whether the part is nullable; the letters that can come first in it, and those of which a rival can; the letters that can come
 // next after one of those that can come last in it, and those of which a rival can; and the letters that come first in a thread of it together with a rival, or next after the same
@@ -46,73 +47,68 @@ fn linked(e: SideSets, f: SideSets) -> u64
     (f.first_own & (e.next_rival | f.first_rival)) | (f.first_rival & e.next_own)
 }
 
-// `e , f`
-fn seq_sides(e: SideSets, f: SideSets) -> SideSets
-    ensures { (x : ℕ) → sides_of x result ≡ seq_sides (sides_of x e) (sides_of x f) }
-{
-    SideSets {
-        nullable: e.nullable & f.nullable,
-        first_own: e.first_own | kept(e.nullable, f.first_own),
-        first_rival: e.first_rival | kept(e.nullable, f.first_rival),
-        next_own: f.next_own | kept(f.nullable, e.next_own | f.first_own),
-        next_rival: f.next_rival | kept(f.nullable, e.next_rival | f.first_rival),
-        fork: e.fork | (f.fork | linked(e, f)),
-    }
-}
+impl Summary for SideSets {
+    ghost One = { Sides };
 
-// `e || f`
-fn alt_sides(e: SideSets, f: SideSets) -> SideSets
-    ensures { (x : ℕ) → sides_of x result ≡ alt_sides (sides_of x e) (sides_of x f) }
-{
-    SideSets {
-        nullable: e.nullable | f.nullable,
-        first_own: e.first_own | f.first_own,
-        first_rival: e.first_rival | f.first_rival,
-        next_own: e.next_own | f.next_own,
-        next_rival: e.next_rival | f.next_rival,
-        fork: e.fork | f.fork,
-    }
-}
+    ghost of = { sides_of };
 
-// `e*`
-fn star_sides(e: SideSets) -> SideSets
-    ensures { (x : ℕ) → sides_of x result ≡ star_sides (sides_of x e) }
-{
-    SideSets {
-        nullable: true,
-        first_own: e.first_own,
-        first_rival: e.first_rival,
-        next_own: e.next_own | e.first_own,
-        next_rival: e.next_rival | e.first_rival,
-        fork: e.fork | linked(e, e),
-    }
-}
+    ghost nothing_of = { letter_sides false false };
 
-// `e @ f`: f is a thread.
-fn pipe_sides(e: SideSets, f: SideSets) -> SideSets
-    ensures { (x : ℕ) → sides_of x result ≡ pipe_sides (sides_of x e) (sides_of x f) }
-{
-    SideSets {
-        nullable: false,
-        first_own: e.first_own,
-        first_rival: e.first_rival,
-        next_own: e.next_own,
-        next_rival: e.next_rival,
-        fork: (f.first_own & f.first_rival) | (e.fork | f.fork),
-    }
-}
+    ghost seq_of = { seq_sides };
 
-// An operator of two operands, by its kind.
-fn joined_sides(kind: usize, e: SideSets, f: SideSets) -> SideSets
-    ensures { (x : ℕ) → sides_of x result ≡ joined_sides kind (sides_of x e) (sides_of x f) }
-{
-    if kind == 1 {
-        return seq_sides(e, f);
+    ghost alt_of = { alt_sides };
+
+    ghost star_of = { star_sides };
+
+    ghost pipe_of = { pipe_sides };
+
+    fn nothing() -> SideSets {
+        letter_sides(0, 0)
     }
-    if kind == 2 {
-        return alt_sides(e, f);
+
+    fn seq(self, f: SideSets) -> SideSets {
+        SideSets {
+            nullable: self.nullable & f.nullable,
+            first_own: self.first_own | kept(self.nullable, f.first_own),
+            first_rival: self.first_rival | kept(self.nullable, f.first_rival),
+            next_own: f.next_own | kept(f.nullable, self.next_own | f.first_own),
+            next_rival: f.next_rival | kept(f.nullable, self.next_rival | f.first_rival),
+            fork: self.fork | (f.fork | linked(self, f)),
+        }
     }
-    pipe_sides(e, f)
+
+    fn alt(self, f: SideSets) -> SideSets {
+        SideSets {
+            nullable: self.nullable | f.nullable,
+            first_own: self.first_own | f.first_own,
+            first_rival: self.first_rival | f.first_rival,
+            next_own: self.next_own | f.next_own,
+            next_rival: self.next_rival | f.next_rival,
+            fork: self.fork | f.fork,
+        }
+    }
+
+    fn star(self) -> SideSets {
+        SideSets {
+            nullable: true,
+            first_own: self.first_own,
+            first_rival: self.first_rival,
+            next_own: self.next_own | self.first_own,
+            next_rival: self.next_rival | self.first_rival,
+            fork: self.fork | linked(self, self),
+        }
+    }
+
+    fn pipe(self, f: SideSets) -> SideSets {
+        SideSets {
+            nullable: false,
+            first_own: self.first_own,
+            first_rival: self.first_rival,
+            next_own: self.next_own,
+            next_rival: self.next_rival,
+            fork: (f.first_own & f.first_rival) | (self.fork | f.fork),
+        }
+    }
 }
 
 // Where the letters from `first` on that have masks end: at `stop`, if no letter below it has none.
@@ -129,15 +125,15 @@ fn masks_end(first: usize, stop: usize) -> usize
 }
 
 // Of the letters from `first` on and below `stop`, 64 at most, those that one word meets together with a letter. A letter without masks is met by each word.
+// two arrays side by side and no struct of both: `judge_of` and the table of a watch have them apart, and each clause would tell of such a struct at entry and at exit, which is no plainer
 fn met_with(look: &[u64; 256], want: &[u64; 256], letter: usize, first: usize, stop: usize) -> u64
     ensures { Passing (λ i. rivals look.now want.now i letter) first stop result }
 {
     let own_look = word_at(look, letter);
     let own_want = word_at(want, letter);
     let mut set = 0xffff_ffff_ffff_ffff;
-    let mut i = masks_end(first, stop);
-    while first < i {
-        i -= 1;
+    let end = masks_end(first, stop);
+    for i in (first..end).rev() {
         set = in_front(compatible(look[i], want[i], own_look, own_want), set);
     }
     set
@@ -158,36 +154,6 @@ fn letter_at(
     letter_sides(own, without(met, own))
 }
 
-// What a row has of the letters from `first` on and below `stop`, 64 at most, and their rivals. `fuel` bounds how deep the walk goes.
-fn sides_at(
-    table: &[u64],
-    look: &[u64; 256],
-    want: &[u64; 256],
-    first: usize,
-    stop: usize,
-    fuel: usize,
-    row: usize,
-) -> SideSets
-    ensures { (x : ℕ) → x < 64 → first + x < stop → sides_of x result ≡ sides_at (kinds table.now) (lefts table.now) (rights table.now) look.now want.now (first + x) fuel row }
-{
-    if fuel == 0 {
-        return letter_sides(0, 0);
-    }
-    let head = word_at(table, row);
-    let k = part0(head);
-    let a = part1(head);
-    if k == 0 {
-        return letter_at(look, want, a, first, stop);
-    }
-    let e = sides_at(table, look, want, first, stop, fuel - 1, a);
-    if k == 3 {
-        return star_sides(e);
-    }
-    let b = part2(head);
-    let f = sides_at(table, look, want, first, stop, fuel - 1, b);
-    joined_sides(k, e, f)
-}
-
 // The letters from `first` on and below `stop`, 64 at most, that are side by side with a rival in the monitor at `row`, whose last letters are followed by its first ones, as in a
 // star.
 fn forks_from(
@@ -200,12 +166,13 @@ fn forks_from(
 ) -> u64
     ensures { Passing (fork_at (kinds table.now) (lefts table.now) (rights table.now) look.now want.now row) first stop result }
 {
-    let e = sides_at(table, look, want, first, stop, 1024, row);
-    let again = star_sides(e);
+    let letter = |letter: usize| letter_at(look, want, letter, first, stop);
+    let e = walk(table, &letter, 1024, row);
+    let again = e.star();
     again.fork
 }
 
-// The lowest letter from `first` on that is side by side with a rival, or the first that is not below `end`.
+// The lowest letter from `first` on and below `end` that is side by side with a rival.
 pub(crate) fn lowest_fork(
     table: &[u64],
     look: &[u64; 256],
@@ -213,17 +180,10 @@ pub(crate) fn lowest_fork(
     row: usize,
     first: usize,
     end: usize,
-) -> usize
-    ensures { result ≡ lowest (fork_at (kinds table.now) (lefts table.now) (rights table.now) look.now want.now row) first (end - first) }
+) -> Option<usize>
+    ensures { Lowest (fork_at (kinds table.now) (lefts table.now) (rights table.now) look.now want.now row) first end result }
 {
-    let mut i = first;
-    while i < end {
-        let stop = stop_of(i, end);
-        let found = lowest_in(forks_from(table, look, want, row, i, stop), i, stop);
-        if found < stop {
-            return found;
-        }
-        i = stop;
-    }
-    i
+    lowest_by(first, end, |from, stop| {
+        forks_from(table, look, want, row, from, stop)
+    })
 }

@@ -1,42 +1,14 @@
 -- The foot of the sheet, by the code's loops. Assumes nothing.
-use mathlib.Core.Path.{◌≡◌, refl, sym, ◌∙◌, ap, ap₂}
+use mathlib.Core.Path.{◌≡◌, sym, ◌∙◌, ap, ap₂}
 use mathlib.Core.List.{List, [], ◌∷◌, ◌++◌}
 use Prim.Native.Nat.{ℕ, suc, ◌+◌, ◌-◌, ◌<◌, ◌≤◌, min}
 use native.Mathlib.Omega.{arith}
-use lib.ListN.{length, length-append, get_or}
-use lib.Seq.{sets, length-sets}
+use lib.ListN.{get_or}
 use Rattle.meaning.specs.Lists.{total}
 use Rattle.meaning.specs.Totals.{sum}
 use Rattle.meaning.specs.Sheet.{met_line, met_lines, all_met_lines}
 use Rattle.monitor.specs.Ticks.{letters_end}
 use Rattle.monitor.specs.Calls.{stretch, totals_from, totals_in}
-use Rattle.rules.proofs.Overlay.{sets_behind}
-
--- ---- bytes that are still to be put
-
--- of the whole, to be put at a place, the rest is still to be put at another
-pub record ToPut (o₀ : List ℕ) (a₀ : ℕ) (whole o : List ℕ) (a : ℕ) (rest : List ℕ) : Type 0 where
-  pub puts : sets o₀ a₀ whole ≡ sets o a rest
-  pub long : a₀ + length whole ≡ a + length rest
-
-pub nothing_put : (o : List ℕ) (a : ℕ) (whole rest : List ℕ) → whole ≡ rest → ToPut o a whole o a rest
-nothing_put o a whole rest e = record { puts = ap (sets o a) e; long = ap (λ (xs : List ℕ). a + length xs) e }
-
-module _ {o₀ whole o rest : List ℕ} {a₀ a : ℕ} (p : ToPut o₀ a₀ whole o a rest) where
-  pub line-put : (o' : List ℕ) (a' : ℕ) (line more : List ℕ) → rest ≡ line ++ more → o' ≡ sets o a line → a' ≡ a + length line → ToPut o₀ a₀ whole o' a' more
-  line-put o' a' line more e w b =
-      let l = ap length e in
-      record {
-        puts = p.puts ∙ ap (sets o a) e ∙ sym (ap (λ (x : List ℕ). sets x a' more) w ∙ sets_behind o a a' line more (line ++ more) b refl);
-        long = omega (arith, p.long, l, length-append line more, b);
-      }
-
-  -- it keeps its length
-  pub put-kept : length o ≡ length o₀
-  put-kept = sym (length-sets o a rest) ∙ ap length (sym p.puts) ∙ length-sets o₀ a₀ whole
-
-  pub all-put : rest ≡ [] → (o ≡ sets o₀ a₀ whole) × (a ≡ a₀ + length whole)
-  all-put e = (sym (p.puts ∙ ap (sets o a) e), let l = ap length e in omega (arith, p.long, l))
 
 -- ---- the letters of a monitor
 

@@ -1,7 +1,7 @@
 -- The kept line of a good tick (specs/Laid.antt): laid out, counted on, and given its word. Assumes nothing.
-use mathlib.Core.Path.{◌≡◌, refl, sym, ap, ◌∙◌}
+use mathlib.Core.Path.{◌≡◌, refl, sym, ap, ap₂, ◌∙◌}
 use mathlib.Core.List.{List, [], ◌∷◌, ◌++◌, append_assoc}
-use Prim.Native.Nat.{ℕ, ◌+◌, ◌-◌, ◌%◌, ◌<◌, ◌≤◌}
+use Prim.Native.Nat.{ℕ, ◌+◌, ◌-◌, ◌%◌, ◌^◌, ◌<◌, ◌≤◌}
 use native.Mathlib.Omega.{arith}
 use lib.ListN.{length, get_or, set, take, drop, length-append, replicate, take-append-drop}
 use lib.Seq.{sets, sets-eq, length-take-le, take_at, drop_at, take_all, get_or_at, set_at}
@@ -9,7 +9,10 @@ use Rattle.lexer.specs.Bytes.{bytes}
 use Rattle.meaning.specs.Sheet.{decimal, hexadecimal, line}
 use Rattle.sheet.specs.Laid.{Laid}
 use Rattle.sheet.specs.Lines.{ok_line, tick_front}
-use Rattle.sheet.proofs.PageSteps.{Put, digits_long, Last, last-digit, hexadecimal-long}
+use Rattle.std.specs.Fmt as std
+use Rattle.sheet.proofs.PageSteps.{as-std, printed_as, Last, last-digit, hexadecimal-long}
+use Rattle.sheet.specs.Pages.{Printed}
+use Rattle.sheet.specs.declared.page.Page.{Page}
 use Rattle.sheet.proofs.LineSteps.{behind-front}
 
 -- what stands behind the number
@@ -19,26 +22,25 @@ tail word = 32 ∷ (word ++ bytes " ok\n")
 tail-long : (word : List ℕ) → length word ≡ 16 → length (tail word) ≡ 21
 tail-long word h = omega (arith, h, length-append word (bytes " ok\n"))
 
--- digits filled in, in front of such a tail
-pub laid_filled : (word row row' : List ℕ) (r t : ℕ) → length word ≡ 16 → drop 20 row ≡ tail word → drop r row' ≡ decimal t ++ drop 20 row → r < 20 → length row' ≡ 41
-    → Laid row' r t
-laid_filled word row row' r t h p e b l =
-    let q : drop r row' ≡ decimal t ++ tail word = e ∙ ap (λ (x : List ℕ). decimal t ++ x) p in
+-- digits written in front of such a tail
+pub laid_filled : (word row row' : List ℕ) (r t : ℕ) → length word ≡ 16 → drop 20 row ≡ tail word → t < 2 ^ 64
+    → r + length (std.decimal t) ≡ 20 → drop r row' ≡ std.decimal t ++ drop 20 row → length row' ≡ 41 → Laid row' r t
+laid_filled word row row' r t h p small b e l =
+    let d = as-std t small in
+    let q : drop r row' ≡ decimal t ++ tail word = e ∙ ap₂ (λ (x y : List ℕ). x ++ y) d p in
     record {
       front = take r row';
       word = word;
       whole = sym (take-append-drop r row') ∙ ap (λ (x : List ℕ). take r row' ++ x) q;
       starts = length-take-le r row' (omega (arith, b, l));
-      ends = digits_long t r row' (tail word) q b l (tail-long word h);
+      ends = omega (arith, b, ap length d);
       long = h;
     }
 
 -- the number in front of blanks and the verdict
-pub laid-blank : (row row' : List ℕ) (r t : ℕ) → row ≡ replicate 41 32 → drop r row' ≡ decimal t ++ drop 20 (set (set (set row 38 111) 39 107) 40 10) → r < 20 → length row' ≡ 41
-    → Laid row' r t
-laid-blank row row' r t z e b l =
-    laid_filled (replicate 16 32) (set (set (set row 38 111) 39 107) 40 10) row' r t refl
-    (ap (λ (x : List ℕ). drop 20 (set (set (set x 38 111) 39 107) 40 10)) z) e b l
+pub laid-blank : (row' : List ℕ) (r t : ℕ) → t < 2 ^ 64 → r + length (std.decimal t) ≡ 20
+    → drop r row' ≡ std.decimal t ++ drop 20 (set (set (set (replicate 41 32) 38 111) 39 107) 40 10) → length row' ≡ 41 → Laid row' r t
+laid-blank row' r t = laid_filled (replicate 16 32) (set (set (set (replicate 41 32) 38 111) 39 107) 40 10) row' r t refl refl
 
 module _ {row : List ℕ} {from t : ℕ} (m : Laid row from t) where
   abbrev head : List ℕ
@@ -154,14 +156,16 @@ module _ {row : List ℕ} {from t : ℕ} (m : Laid row from t) where
     front-part : take (38 - from) (drop from row') ≡ tick_front t w
     front-part = ap (take (38 - from)) (from-here ∙ front-told) ∙ take_at (tick_front t w) (bytes "ok\n") (38 - from) front_long
 
-    -- the line put, and its front
-    module _ (o o' : List ℕ) (a a' : ℕ) where
-      pub ok-put : o' ≡ sets o a (take (41 - from) (drop from row')) → a' ≡ a + length (take (41 - from) (drop from row'))
-          → (o' ≡ sets o a (ok_line t w)) × (a' ≡ a + length (ok_line t w)) × (length (ok_line t w) ≤ 64)
-      ok-put p q = (p ∙ ap (sets o a) ok-part, q ∙ ap (λ (x : List ℕ). a + length x) ok-part, omega (arith, told-long, ap length ok-told))
+    -- the line printed, and its front
+    module _ {p q : Page} where
+      pub good-line : Printed p q (take (41 - from) (drop from row')) → Printed p q (ok_line t w)
+      good-line = printed_as ok-part
 
-      pub front-put : o' ≡ sets o a (take (38 - from) (drop from row')) → a' ≡ a + length (take (38 - from) (drop from row')) → Put o a (tick_front t w) o' a'
-      front-put p q = record { wrote = p ∙ ap (sets o a) front-part; behind = q ∙ ap (λ (x : List ℕ). a + length x) front-part }
+      pub front-line : Printed p q (take (38 - from) (drop from row')) → Printed p q (tick_front t w)
+      front-line = printed_as front-part
+
+    pub good-short : length (ok_line t w) ≤ 64
+    good-short = omega (arith, told-long, ap length ok-told)
 
     pub front-short : length (tick_front t w) ≤ 38
     front-short = omega (arith, front_long)

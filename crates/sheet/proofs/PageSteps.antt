@@ -1,21 +1,26 @@
 -- The steps of page.rt: digits and bytes stored behind one another. Assumes nothing.
 use mathlib.Core.Path.{◌≡◌, refl, sym, ap, ap₂, ◌∙◌, subst}
 use mathlib.Core.Bool.{Bool, true, false, cond}
-use mathlib.Core.List.{List, [], ◌∷◌, ◌++◌}
+use mathlib.Core.List.{List, [], ◌∷◌, ◌++◌, append_assoc}
 use Prim.Native.Nat.{ℕ, zero, suc, ◌+◌, ◌-◌, ◌*◌, ◌/◌, ◌%◌, ◌^◌, ◌≤◌, ◌<◌}
 use native.Mathlib.Omega.{arith}
 use native.Mathlib.Nat.{div-eq_of_lt, div-lt_iff_lt-mul, mod-eq_of_lt, pow-suc, le_trans}
-use lib.ListN.{length, get_or, set, take, drop, length-append, length-set, length-drop}
-use lib.Seq.{sets, drop-cons, drop-set-lt, get_or-set_same, get_or-set_other, lt-length-set, take_at}
+use lib.ListN.{length, get_or, set, take, drop, length-append, length-drop}
+use lib.Seq.{sets, sets-eq, drop-drop, drop-cons, get_or-set_same, get_or-set_other, take_at}
 use lib.Pow.{shr-shr}
 use borrow.Author.Count.{below_more}
-use borrow.Author.Tests.{lt-ltb, le-ltb, ltb-true, ltb-false}
+use borrow.Author.Tests.{lt-ltb, ltb-true, ltb-false}
 use lib.Dec.{ltb}
+use Rattle.std.specs.Fmt as std
+use borrow.Rule.Slice.PartMut.{put_mid}
+use Rattle.std.proofs.lemmas.Fmt.{decimal_by_steps}
 use Rattle.meaning.specs.Sheet.{digits_in, decimal, hexadecimal}
 use Rattle.rules.proofs.Overlay.{sets_behind}
 use Rattle.sheet.specs.Digits.{hex_digit, pair_of}
+use Rattle.sheet.specs.Pages.{Printed}
+use Rattle.sheet.specs.declared.page.Page.{Page}
 
--- ---- puts behind one another
+-- ---- bytes put behind one another, and printed
 
 -- xs are put at a place, and the place behind is told
 pub record Put (o : List ℕ) (a : ℕ) (xs o' : List ℕ) (a' : ℕ) : Type 0 where
@@ -29,13 +34,60 @@ put_two {o} {o₁} {o₂} {xs} {ys} {a} {a₁} {a₂} p q =
       behind = omega (arith, length-append xs ys);
     }
 
+pub nothing : (p : Page) → Printed p p []
+nothing p = record { same = refl; wrote = refl; behind = omega arith }
+
+module _ {p q : Page} {xs : List ℕ} where
+  pub printed_as : {ys : List ℕ} → xs ≡ ys → Printed p q xs → Printed p q ys
+  printed_as e a =
+      record { same = a.same; wrote = a.wrote ∙ ap (sets p.out.now p.at) e; behind = a.behind ∙ ap (λ (zs : List ℕ). p.at + length zs) e }
+
+  pub both : {r : Page} {ys : List ℕ} → Printed p q xs → Printed q r ys → Printed p r (xs ++ ys)
+  both {r} {ys} a b =
+      let put : Put p.out.now p.at (xs ++ ys) r.out.now r.at = put_two (record { wrote = a.wrote; behind = a.behind }) (record { wrote = b.wrote; behind = b.behind }) in
+      record { same = b.same ∙ a.same; wrote = put.wrote; behind = put.behind }
+
+-- a text copied to where it fits
+pub printed-whole : (out ys xs : List ℕ) (at : ℕ) → ys ≡ xs → at + length xs ≤ length out → put_mid at (at + length xs - at) out ys ≡ sets out at xs
+printed-whole out ys xs at e h =
+    let k : at + length xs - at ≡ length xs = omega arith in
+    ap₂ (λ (n : ℕ) (zs : List ℕ). put_mid at n out zs) k e
+    ∙ ap (λ (zs : List ℕ). take at out ++ (xs ++ zs)) (drop-drop (length xs) at out)
+    ∙ sym (append_assoc (take at out) xs (drop (at + length xs) out)) ∙ sym (sets-eq xs out at h)
+
+-- of the whole, to be printed from p on, the rest is still to be printed on q
+pub record Remains (p q : Page) (whole rest : List ℕ) : Type 0 where
+  pub same : q.out.ghost_name ≡ p.out.ghost_name
+  pub puts : sets p.out.now p.at whole ≡ sets q.out.now q.at rest
+  pub long : p.at + length whole ≡ q.at + length rest
+
+pub remains-all : (p : Page) (whole rest : List ℕ) → whole ≡ rest → Remains p p whole rest
+remains-all p whole rest e = record { same = refl; puts = ap (sets p.out.now p.at) e; long = ap (λ (xs : List ℕ). p.at + length xs) e }
+
+module _ {p q : Page} {whole rest : List ℕ} (m : Remains p q whole rest) where
+  pub remains-more : {r : Page} {line : List ℕ} → (more : List ℕ) → rest ≡ line ++ more → Printed q r line → Remains p r whole more
+  remains-more {r} {line} more e a =
+      record {
+        same = a.same ∙ m.same;
+        puts =
+            m.puts ∙ ap (sets q.out.now q.at) e
+            ∙ sym (ap (λ (x : List ℕ). sets x r.at more) a.wrote ∙ sets_behind q.out.now q.at r.at line more (line ++ more) a.behind refl);
+        long = omega (arith, m.long, ap length e, length-append line more, a.behind);
+      }
+
+  pub remains-none : rest ≡ [] → Printed p q whole
+  remains-none e = record { same = m.same; wrote = sym (m.puts ∙ ap (sets q.out.now q.at) e); behind = omega (arith, ap length e, m.long) }
+
+-- a byte of a text
+pub remains-byte : {p q r : Page} (xs : List ℕ) (i x : ℕ) → i < length xs → x ≡ get_or xs i 0 → Remains p q xs (drop i xs) → Printed q r (x ∷ []) → Remains p r xs (drop (i + 1) xs)
+remains-byte xs i x h e m a =
+    let t : suc i ≡ i + 1 = omega arith in
+    remains-more m (drop (i + 1) xs) (drop-cons xs i 0 h ∙ ap₂ (λ (y : ℕ) (ys : List ℕ). y ∷ ys) (sym e) (ap (λ (k : ℕ). drop k xs) t)) a
+
 -- ---- digits
 
 pub digit_low : (d : ℕ) → d < 10 → 48 + d ≡ hex_digit d
 digit_low d h = ap (λ (b : Bool). cond b (48 + d) (87 + d)) (sym (lt-ltb d 10 h))
-
-pub digit-high : (d : ℕ) → 10 ≤ d → 87 + d ≡ hex_digit d
-digit-high d h = ap (λ (b : Bool). cond b (48 + d) (87 + d)) (sym (le-ltb d 10 h))
 
 digits-end : (k n : ℕ) (ds : List ℕ) → n / 10 ≡ 0 → digits_in 10 (suc k) n ds ≡ hex_digit (n % 10) ∷ ds
 unfolding digits_in
@@ -152,43 +204,6 @@ last-digit n = by (ltb n 10) refl
     by true e = last-few n (ltb-true n 10 e)
     by false e = last-many n (ltb-false n 10 e)
 
-drop_here : (l : List ℕ) (i v : ℕ) → i < length l → drop i (set l i v) ≡ v ∷ drop (i + 1) l
-drop_here l i v h =
-    let t : suc i ≡ i + 1 = omega arith in
-    drop-cons (set l i v) i 0 (lt-length-set l i v h)
-    ∙ ap₂ (λ (a : ℕ) (r : List ℕ). a ∷ r) (get_or-set_same l i v 0 h) (drop-set-lt (suc i) l i v (omega arith) ∙ ap (λ (k : ℕ). drop k l) t)
-
--- the digits from behind i on are those of n without those of rest, which has at most i + 1; behind them is `tail`
-abbrev pub Filled : (n : ℕ) (tail digits : List ℕ) (i rest : ℕ) → Type 0
-Filled n tail digits i rest = (i < 20) × (length digits ≡ 41) × (rest < 10 ^ (i + 1)) × (decimal n ++ tail ≡ digits_in 10 rest rest (drop (i + 1) digits))
-
-pub fill_start : (n : ℕ) (digits : List ℕ) → length digits ≡ 41 → n < 2 ^ 64 → Filled n (drop 20 digits) digits 19 n
-unfolding decimal
-fill_start n digits l h = (omega arith, l, omega arith, sym (digits-behind n n [] (drop 20 digits)))
-
-pub fill-place : (i rest : ℕ) → rest < 10 ^ (i + 1) → 10 ≤ rest → 1 ≤ i
-fill-place zero rest h g = absurd (omega (arith, h, g))
-fill-place (suc i) rest h g = omega arith
-
-pub fill_more : (n : ℕ) (tail digits : List ℕ) (i rest : ℕ) → Filled n tail digits i rest → 10 ≤ rest → Filled n tail (set digits i (48 + rest % 10)) (i - 1) (rest / 10)
-fill_more n tail digits i rest (a, b, h, e) g =
-    let p = fill-place i rest h g in
-    let s : i - 1 + 1 ≡ i = omega arith in
-    let t : i + 1 ≡ suc i = omega arith in
-    let big : rest < 10 ^ i * 10 = subst (λ (m : ℕ). rest < m) (ap (λ (k : ℕ). 10 ^ k) t ∙ pow-suc 10 i) h in (
-      omega arith,
-      length-set digits i (48 + rest % 10) ∙ b,
-      subst (λ (k : ℕ). rest / 10 < 10 ^ k) (sym s) ((div-lt_iff_lt-mul {k = 10} {x = rest} {y = 10 ^ i} (omega arith)).1 big),
-      e ∙ digits-turn rest (drop (i + 1) digits) g
-          ∙ ap (digits_in 10 (rest / 10) (rest / 10))
-          (sym (ap (λ (k : ℕ). drop k (set digits i (48 + rest % 10))) s ∙ drop_here digits i (48 + rest % 10) (omega (arith, a, b)))),
-    )
-
-pub fill_end : (n : ℕ) (tail digits : List ℕ) (i rest : ℕ) → Filled n tail digits i rest → rest < 10
-    → (drop i (set digits i (48 + rest)) ≡ decimal n ++ tail) × (i < 20) × (length (set digits i (48 + rest)) ≡ 41)
-fill_end n tail digits i rest (a, b, h, e) g =
-    (drop_here digits i (48 + rest) (omega (arith, a, b)) ∙ sym (e ∙ digits_last rest (drop (i + 1) digits) g), a, length-set digits i (48 + rest) ∙ b)
-
 -- digits that end before byte 20, 21 bytes before the end
 pub digits_long : (n r : ℕ) (line tail : List ℕ) → drop r line ≡ decimal n ++ tail → r < 20 → length line ≡ 41 → length tail ≡ 21 → r + length (decimal n) ≡ 20
 digits_long n r line tail e h l m = omega (arith, h, l, m, length-drop r line, ap length e, length-append (decimal n) tail)
@@ -201,6 +216,13 @@ decimal-put n at place r line tail o o' h e b l m p q =
     let d = digits_long n r line tail e b l m in
     let s : take (20 - r) (drop r line) ≡ decimal n = ap (take (20 - r)) e ∙ take_at (decimal n) tail (20 - r) (omega (arith, d)) in
     (p ∙ ap (sets o at) s, q ∙ ap (λ (zs : List ℕ). at + length zs) s, decimal-short n (omega arith))
+
+-- the digits as std has them
+pub as-std : (n : ℕ) → n < 2 ^ 64 → std.decimal n ≡ decimal n
+unfolding decimal
+as-std n h =
+    decimal_by_steps (λ (n : ℕ) (ds : List ℕ). ds ≡ decimal n) (λ n l. sym (digits_last n [] l))
+    (λ n ds l e. ap (λ (xs : List ℕ). xs ++ ((48 + n % 10) ∷ [])) e ∙ sym (digits-turn n [] l ∙ digits-behind (n / 10) (n / 10) [] ((48 + n % 10) ∷ []))) n h
 
 -- ---- words
 
@@ -282,3 +304,20 @@ module _ (w k b p : ℕ) (h : 0 < k) (e : b ≡ w / 2 ^ (8 * (k - 1)) % 256) (f 
       word_more o₀ (set o place (p % 256)) _ at (place + 1) (place + 2) (2 * k - 1) (p / 256) w (omega (arith, h))
       (word_more o₀ o _ at place (place + 1) (2 * k) (p % 256) w (omega (arith, h)) g pair-first refl refl) pair-second refl (omega arith)
       ∙ ap (λ (j : ℕ). sets (set (set o place (p % 256)) (place + 1) (p / 256)) (place + 2) (hexadecimal j w)) x
+
+-- the k-th pair of a word of 8, in a line from byte 21 on
+module _ (w k b p : ℕ) (h : k < 8) (e : b ≡ w / 2 ^ (56 - 8 * k) % 256) (f : p ≡ pair_of b) where
+  byte-down : b ≡ w / 2 ^ (8 * (8 - k - 1)) % 256
+  byte-down = let x : 56 - 8 * k ≡ 8 * (8 - k - 1) = omega (arith, h) in e ∙ ap (λ (m : ℕ). w / 2 ^ m % 256) x
+
+  pub word-fits : p / 256 < 256
+  word-fits = pair_fits w (8 - k) b p (omega (arith, h)) byte-down f
+
+  pub word-pair : (o₀ o : List ℕ) → sets o₀ 21 (hexadecimal 16 w) ≡ sets o (21 + 2 * k) (hexadecimal (16 - 2 * k) w)
+      → sets o₀ 21 (hexadecimal 16 w) ≡ sets (set (set o (21 + 2 * k) (p % 256)) (21 + 2 * k + 1) (p / 256)) (21 + 2 * (k + 1)) (hexadecimal (16 - 2 * (k + 1)) w)
+  word-pair o₀ o g =
+      let x : 16 - 2 * k ≡ 2 * (8 - k) = omega (arith, h) in
+      let y : 2 * (8 - k - 1) ≡ 16 - 2 * (k + 1) = omega (arith, h) in
+      let z : 21 + 2 * k + 2 ≡ 21 + 2 * (k + 1) = omega arith in
+      pair-more w (8 - k) b p (omega (arith, h)) byte-down f o₀ o 21 (21 + 2 * k) (g ∙ ap (λ (j : ℕ). sets o (21 + 2 * k) (hexadecimal j w)) x)
+      ∙ ap₂ (λ (m j : ℕ). sets (set (set o (21 + 2 * k) (p % 256)) (21 + 2 * k + 1) (p / 256)) m (hexadecimal j w)) z y

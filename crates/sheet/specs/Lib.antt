@@ -3,4 +3,8 @@ pub mod Digits
 pub mod Laid
 pub mod Lines
 pub mod Items
+pub mod Pages
+pub mod Kept
+pub mod Moved
+pub mod Runs
 pub mod Pieces

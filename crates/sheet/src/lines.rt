@@ -1,126 +1,123 @@
-// The lines of the sheet (docs/REFERENCE.md, P), each written into a lent range from a place on.
-ghost use Rattle.std.specs.Prelude.{◌≡◌, ◌+◌, ◌<◌, ◌≤◌, [], ◌∷◌, length, replicate};
-ghost use Rattle.std.proofs.lemmas.List.Edits.{sets};
+// The lines of the sheet (docs/REFERENCE.md, P), each put on a page, and the line that is kept from good tick to good tick.
+ghost use Rattle.std.specs.Prelude.{◌≡◌, ◌+◌, ◌<◌, ◌≤◌, [], ◌∷◌};
 ghost use Rattle.meaning.specs.Sheet.{refusal_line, counts_line, clean_line};
-ghost use Rattle.sheet.specs.Digits.{Pairs};
-ghost use Rattle.sheet.specs.Laid.{Laid};
+ghost use Rattle.sheet.specs.Kept.{Kept};
 ghost use Rattle.sheet.specs.Lines.{ok_line, bad_line};
+ghost use Rattle.sheet.specs.Pages.{Printed};
 
-use super::page::{fill_decimal, put, put_decimal, put_text, store_word};
+use super::page::{Page, pairs, store_word};
+use itoa::write_digits;
 
-// A refusal with a number and one more: its byte, or its tick.
-pub(crate) fn put_refusal(number: u8, place: u64, out: &mut [u8], at: usize) -> usize
-    requires { at < 4294967296 }
-    ensures { (out.new ≡ sets out.old at (refusal_line number (place ∷ []))) × (result ≡ at + length (refusal_line number (place ∷ []))) × (length (refusal_line number (place ∷ [])) ≤ 64) }
-{
-    let named = put_text(b"refused ", out, at);
-    let numbered = put_decimal(number as u64, out, named);
-    let parted = put(b' ', out, numbered);
-    let placed = put_decimal(place, out, parted);
-    put(b'\n', out, placed)
+// The line of a good tick, in which from one to the next little changes: its bytes, where its number begins, and the digits of every byte.
+#[derive(Drop)]
+pub(crate) struct TickLine {
+    bytes: [u8; 41],
+    from: usize,
+    pairs: [u16; 256],
 }
 
-// A refusal at a letter of a monitor.
-pub(crate) fn put_refusal_at(
-    number: u8,
-    monitor: u64,
-    letter: u64,
-    out: &mut [u8],
-    at: usize,
-) -> usize
-    requires { at < 4294967296 }
-    ensures { (out.new ≡ sets out.old at (refusal_line number (monitor ∷ letter ∷ []))) × (result ≡ at + length (refusal_line number (monitor ∷ letter ∷ []))) × (length (refusal_line number (monitor ∷ letter ∷ [])) ≤ 128) }
-{
-    let named = put_text(b"refused ", out, at);
-    let numbered = put_decimal(number as u64, out, named);
-    let parted = put(b' ', out, numbered);
-    let owned = put_decimal(monitor, out, parted);
-    let again = put(b' ', out, owned);
-    let placed = put_decimal(letter, out, again);
-    put(b'\n', out, placed)
-}
-
-// Both counts of an opened text.
-pub(crate) fn put_counts(rows: u64, letters: u64, out: &mut [u8], at: usize) -> usize
-    requires { at < 4294967296 }
-    ensures { (out.new ≡ sets out.old at (counts_line (record { rows = rows; letters = letters }))) × (result ≡ at + length (counts_line (record { rows = rows; letters = letters }))) × (length (counts_line (record { rows = rows; letters = letters })) ≤ 64) }
-{
-    let named = put_text(b"rows ", out, at);
-    let counted = put_decimal(rows, out, named);
-    let again = put_text(b" letters ", out, counted);
-    let placed = put_decimal(letters, out, again);
-    put(b'\n', out, placed)
-}
-
-// The line of a good tick, laid out from blanks for its number (specs/Laid.antt): where it begins.
-pub(crate) fn lay(t: u64, line: &mut [u8; 41]) -> usize
-    requires { line.old ≡ replicate 41 32 }
-    ensures { Laid line.new result t }
-{
-    line[38] = b'o';
-    line[39] = b'k';
-    line[40] = b'\n';
-    fill_decimal(t, line)
-}
-
-// The line of tick `t` becomes that of the next: nine times of ten only the last digit changes.
-pub(crate) fn count_on(t: u64, from: usize, line: &mut [u8; 41]) -> usize
-    requires { Laid line.old from t × (t < 1000000) }
-    ensures { Laid line.new result (t + 1) }
-{
-    let last = line[19];
-    if last < b'9' {
-        line[19] = last + 1;
-        return from;
+impl TickLine {
+    // The line of tick `t`, blank where the word goes.
+    pub(crate) fn new(t: u64) -> TickLine
+        ensures { Kept result t }
+    {
+        let mut bytes = [b' '; 41];
+        bytes[38] = b'o';
+        bytes[39] = b'k';
+        bytes[40] = b'\n';
+        let from = write_digits(t, &mut bytes, 20);
+        TickLine {
+            bytes,
+            from,
+            pairs: pairs(),
+        }
     }
-    fill_decimal(t + 1, line)
+
+    // The line of tick `t` becomes that of the next: nine times of ten only the last digit changes.
+    pub(crate) fn count_on(&mut self, t: u64)
+        requires { Kept self.old t × (t < 1000000) }
+        ensures { Kept self.new (t + 1) }
+    {
+        let last = self.bytes[19];
+        if last < b'9' {
+            self.bytes[19] = last + 1;
+            return;
+        }
+        self.from = write_digits(t + 1, &mut self.bytes, 20);
+    }
 }
 
-// A good tick, whose line is laid out but for the word; its number is named for the contract alone.
-pub(crate) fn put_ok(
-    t: u64,
-    word: u64,
-    pairs: &[u16; 256],
-    line: &mut [u8; 41],
-    from: usize,
-    out: &mut [u8],
-    at: usize,
-) -> usize
-    requires { Pairs pairs.now × Laid line.old from t × (at < 4294967296) }
-    ensures { Laid line.new from t × (out.new ≡ sets out.old at (ok_line t word)) × (result ≡ at + length (ok_line t word)) × (length (ok_line t word) ≤ 64) }
-{
-    store_word(word, pairs, line);
-    let whole = &line[..];
-    put_text(&whole[from..41], out, at)
-}
+impl<'a> Page<'a> {
+    // A refusal with a number and one more: its byte, or its tick.
+    pub(crate) fn refusal(&mut self, number: u8, place: u64)
+        requires { self.old.at < 4294967296 }
+        ensures printed { Printed self.old self.new (refusal_line number (place ∷ [])) }
+        ensures short { self.new.at ≤ self.old.at + 64 }
+    {
+        self.text(b"refused");
+        self.number(u64::from(number));
+        self.number(place);
+        self.byte(b'\n');
+    }
 
-// A bad tick: the laid line up to its verdict, and the number of the monitor, or of the limit and 32.
-pub(crate) fn put_bad(
-    t: u64,
-    word: u64,
-    monitor: u64,
-    pairs: &[u16; 256],
-    line: &mut [u8; 41],
-    from: usize,
-    out: &mut [u8],
-    at: usize,
-) -> usize
-    requires { Pairs pairs.now × Laid line.old from t × (at < 4294967296) }
-    ensures { (out.new ≡ sets out.old at (bad_line t word monitor)) × (result ≡ at + length (bad_line t word monitor)) × (length (bad_line t word monitor) ≤ 64) }
-{
-    store_word(word, pairs, line);
-    let whole = &line[..];
-    let front = put_text(&whole[from..38], out, at);
-    let named = put_text(b"bad ", out, front);
-    let numbered = put_decimal(monitor, out, named);
-    put(b'\n', out, numbered)
-}
+    // A refusal at a letter of a monitor.
+    pub(crate) fn refusal_at(&mut self, number: u8, monitor: u64, letter: u64)
+        requires { self.old.at < 4294967296 }
+        ensures printed { Printed self.old self.new (refusal_line number (monitor ∷ letter ∷ [])) }
+        ensures short { self.new.at ≤ self.old.at + 128 }
+    {
+        self.text(b"refused");
+        self.number(u64::from(number));
+        self.number(monitor);
+        self.number(letter);
+        self.byte(b'\n');
+    }
 
-pub(crate) fn put_clean(ticks: u64, out: &mut [u8], at: usize) -> usize
-    requires { at < 4294967296 }
-    ensures { (out.new ≡ sets out.old at (clean_line ticks)) × (result ≡ at + length (clean_line ticks)) × (length (clean_line ticks) ≤ 64) }
-{
-    let named = put_text(b"clean ", out, at);
-    let numbered = put_decimal(ticks, out, named);
-    put(b'\n', out, numbered)
+    // Both counts of an opened text.
+    pub(crate) fn counts(&mut self, rows: u64, letters: u64)
+        requires { self.old.at < 4294967296 }
+        ensures printed { Printed self.old self.new (counts_line (record { rows = rows; letters = letters })) }
+        ensures short { self.new.at ≤ self.old.at + 64 }
+    {
+        self.text(b"rows");
+        self.number(rows);
+        self.text(b" letters");
+        self.number(letters);
+        self.byte(b'\n');
+    }
+
+    // A good tick, whose line is kept but for the word; its number is named for the contract alone.
+    pub(crate) fn good(&mut self, line: &mut TickLine, t: u64, word: u64)
+        requires { Kept line.old t × (self.old.at < 4294967296) }
+        ensures printed { Printed self.old self.new (ok_line t word) }
+        ensures short { self.new.at ≤ self.old.at + 64 }
+        ensures kept { Kept line.new t }
+    {
+        store_word(word, &line.pairs, &mut line.bytes);
+        self.text(&line.bytes[line.from..]);
+    }
+
+    // A bad tick: the kept line up to its verdict, and the number of the monitor, or of the limit and 32.
+    pub(crate) fn bad(&mut self, line: &mut TickLine, t: u64, word: u64, monitor: u64)
+        requires { Kept line.old t × (self.old.at < 4294967296) }
+        ensures printed { Printed self.old self.new (bad_line t word monitor) }
+        ensures short { self.new.at ≤ self.old.at + 64 }
+    {
+        store_word(word, &line.pairs, &mut line.bytes);
+        self.text(&line.bytes[line.from..38]);
+        self.text(b"bad");
+        self.number(monitor);
+        self.byte(b'\n');
+    }
+
+    // The last line of a trace without a bad tick.
+    pub(crate) fn clean(&mut self, ticks: u64)
+        requires { self.old.at < 4294967296 }
+        ensures printed { Printed self.old self.new (clean_line ticks) }
+        ensures short { self.new.at ≤ self.old.at + 64 }
+    {
+        self.text(b"clean");
+        self.number(ticks);
+        self.byte(b'\n');
+    }
 }

@@ -1,56 +1,33 @@
 // A watch at work on records: for each record the tick and its line (specs/Lines.antt).
-ghost use Rattle.std.specs.Prelude.{◌≡◌, ◌+◌, ◌≤◌, length, drop};
-ghost use Rattle.std.proofs.lemmas.List.Edits.{sets};
+ghost use Rattle.std.specs.Prelude.{◌≡◌, ◌≤◌};
 ghost use Rattle.trace.specs.Record.{read_record};
-ghost use Rattle.monitor.specs.Calls.{with_state};
 ghost use Rattle.sheet.specs.Lines.{run, run_over};
-ghost use Rattle.sheet.specs.Items.{item_of};
+ghost use Rattle.sheet.specs.Items.{IsNext};
+ghost use Rattle.sheet.specs.Moved.{moved, moving_of};
+ghost use Rattle.sheet.specs.Runs.{RanOver};
 
-use super::foot::put_foot;
-use super::lines::{count_on, lay, put_bad, put_ok, put_refusal};
-use super::page::pairs;
-use monitor::{count_met, is_bad, layout_of, refused_by, step_in, tables_of};
+use super::lines::TickLine;
+use super::page::Page;
+use monitor::{count_met, is_bad, layout_of_watch, refused_by, step_in, tables_of};
+use refusals::Refusal;
 use rules::Watch;
-use trace::{Read, read_record};
+use trace::{Record, TraceError, read_record};
 
-// What stands at the front of some bytes: a word and its record's length; or `number` is 13, more bytes may come, or 14.
-#[derive(Drop)]
-struct Item {
-    number: u8,
-    word: u64,
-    length: usize,
-}
-
-// Reads the record at the front.
-fn read_item(rest: &[u8], before: u64) -> Item
-    ensures { result ≡ item_of (read_record rest.now before) }
+// The record at the front of some bytes: none where they end or cut it short, for more may come; else why it is refused.
+fn next_record(rest: &[u8], before: u64) -> Result<Option<Record>, Refusal>
+    ensures { IsNext result (read_record rest.now before) }
 {
     match read_record(rest, before) {
-        Read::Word(word, length) => Item {
-            number: 0,
-            word,
-            length,
-        },
-        Read::End => Item {
-            number: 13,
-            word: 0,
-            length: 0,
-        },
-        Read::Torn(_) => Item {
-            number: 13,
-            word: 0,
-            length: 0,
-        },
-        Read::Idle(_) => Item {
-            number: 14,
-            word: 0,
-            length: 0,
-        },
+        Ok(next) => Ok(next),
+        Err(TraceError::Torn(_)) => Ok(None),
+        Err(TraceError::Idle(_)) => Err(Refusal::IdleByte),
+        Err(TraceError::Short) => Err(Refusal::ShortBin),
     }
 }
 
 // What a run over some bytes comes to: the watch and the word before the next record; how many bytes were used; the place
 // behind what was printed; whether a line was printed that ends the sheet.
+// A flag beside values: `run` promises the others where the sheet has ended too.
 #[derive(Clone, Copy)]
 pub struct Ran {
     pub watch: Watch,
@@ -60,167 +37,127 @@ pub struct Ran {
     pub ended: bool,
 }
 
-// What a run comes to, where the watch has moved on.
-fn leave(
-    watch: Watch,
+// What good ticks move on, kept apart from the watch, which is large.
+#[derive(Drop)]
+struct Moving {
     marks: [u8; 288],
     values: [u64; 16],
     past: u64,
     totals: [u32; 256],
     windows: [u16; 1056],
     ticks: u64,
-    stopped: bool,
-    before: u64,
-    used: usize,
-    at: usize,
-    ended: bool,
-) -> Ran
-    ensures { result ≡ record { watch = with_state watch (record { inner = record { marks = marks; values = values; last = past; totals = totals; windows = windows }; oks = ticks; stopped = stopped }); before = before; used = used; at = at; ended = ended } }
-{
-    let mut now = watch;
-    now.marks = marks;
-    now.values = values;
-    now.before = past;
-    now.totals = totals;
-    now.windows = windows;
-    now.ticks = ticks;
-    now.stopped = stopped;
-    Ran {
-        watch: now,
-        before,
-        used,
-        at,
-        ended,
+}
+
+impl Moving {
+    fn of(watch: &Watch) -> Moving
+        ensures { result ≡ moving_of watch.now }
+    {
+        Moving {
+            marks: watch.marks,
+            values: watch.values,
+            past: watch.before,
+            totals: watch.totals,
+            windows: watch.windows,
+            ticks: watch.ticks,
+        }
+    }
+
+    // The watch, moved on.
+    fn watch(self, watch: &Watch, stopped: bool) -> Watch
+        ensures { result ≡ moved watch.now self stopped }
+    {
+        let Moving {
+            marks,
+            values,
+            past,
+            totals,
+            windows,
+            ticks,
+        } = self;
+        Watch {
+            marks,
+            values,
+            before: past,
+            totals,
+            windows,
+            ticks,
+            stopped,
+            ..*watch
+        }
     }
 }
 
-// Runs the watch over the records, and prints a line for each from place `at` on, and the foot behind a bad one. What moves is kept apart from the watch, which is
-// large, and the line of a good tick from one to the next. `past` is the watch's word before, `last` that of the records.
-pub(crate) fn run_from(watch: Watch, before: u64, records: &[u8], out: &mut [u8], at: usize) -> Ran
-    requires { at ≤ 128 }
-    ensures { (run result.watch result.before ≡ (run_over (run watch before) records.now).after)
-        × (drop result.used records.now ≡ (run_over (run watch before) records.now).left)
-        × (result.ended ≡ (run_over (run watch before) records.now).ended)
-        × (out.new ≡ sets out.old at (run_over (run watch before) records.now).printed)
-        × (result.at ≡ at + length (run_over (run watch before) records.now).printed)
-        × (result.used ≤ length records.now) × (result.at ≤ 64200200) }
+// Runs the watch over the records, and prints a line for each, and the foot behind a bad one. `before` is the word before the
+// records; what the watch itself has as the word before is what it took last.
+pub(crate) fn run_from(watch: &Watch, before: u64, records: &[u8], page: &mut Page) -> Ran
+    requires { page.old.at ≤ 128 }
+    ensures { RanOver (run_over (run watch.now before) records.now) records.now page.old page.new result }
 {
     let tables = tables_of(watch);
-    let layout = layout_of(
-        &watch.places,
-        &watch.own,
-        &watch.firsts,
-        &watch.counted,
-        watch.monitors,
-        watch.letters,
-        watch.wires,
-        watch.stores,
-        watch.rows,
-    );
-    let digits = pairs();
-    let mut line = [b' '; 41];
-    let mut from = lay(watch.ticks, &mut line);
-    let mut marks = watch.marks;
-    let mut values = watch.values;
-    let mut past = watch.before;
-    let mut totals = watch.totals;
-    let mut windows = watch.windows;
-    let mut ticks = watch.ticks;
+    let layout = layout_of_watch(watch);
+    let mut moving = Moving::of(watch);
+    let mut line = TickLine::new(moving.ticks);
     let mut last = before;
     let mut used: usize = 0;
-    let mut place = at;
     loop {
-        let next = read_item(&records[used..], last);
-        if next.number == 13 {
-            return leave(
-                watch,
-                marks,
-                values,
-                past,
-                totals,
-                windows,
-                ticks,
-                watch.stopped,
-                last,
+        let record = match next_record(&records[used..], last) {
+            Ok(Some(record)) => record,
+            Ok(None) => return Ran {
+                watch: moving.watch(watch, watch.stopped),
+                before: last,
                 used,
-                place,
-                false,
-            );
-        }
-        if next.number != 0 {
-            let end = put_refusal(next.number, ticks, out, place);
-            return leave(
-                watch,
-                marks,
-                values,
-                past,
-                totals,
-                windows,
-                ticks,
-                watch.stopped,
-                last,
+                at: page.at,
+                ended: false,
+            },
+            Err(refusal) => {
+                page.refusal(refusal.number(), moving.ticks);
+                return Ran {
+                    watch: moving.watch(watch, watch.stopped),
+                    before: last,
+                    used,
+                    at: page.at,
+                    ended: true,
+                };
+            }
+        };
+        let word = record.word;
+        if let Some(refusal) = refused_by(watch.stopped, moving.ticks, watch.wires, word) {
+            page.refusal(refusal.number(), moving.ticks);
+            return Ran {
+                watch: moving.watch(watch, watch.stopped),
+                before: last,
                 used,
-                end,
-                true,
-            );
-        }
-        let word = next.word;
-        let number = refused_by(watch.stopped, ticks, watch.wires, word);
-        if number != 0 {
-            let end = put_refusal(number, ticks, out, place);
-            return leave(
-                watch,
-                marks,
-                values,
-                past,
-                totals,
-                windows,
-                ticks,
-                watch.stopped,
-                last,
-                used,
-                end,
-                true,
-            );
+                at: page.at,
+                ended: true,
+            };
         }
         let answer = step_in(
             &tables,
             &layout,
-            &mut marks,
-            &mut values,
-            &mut windows,
-            past,
+            &mut moving.marks,
+            &mut moving.values,
+            &mut moving.windows,
+            moving.past,
             word,
         );
         if is_bad(answer) {
-            let line_end = put_bad(
-                ticks,
-                word,
-                answer as u64,
-                &digits,
-                &mut line,
-                from,
-                out,
-                place,
-            );
-            let end = put_foot(
-                &watch.firsts,
-                watch.monitors,
-                watch.letters,
-                &totals,
-                out,
-                line_end,
-            );
-            return leave(
-                watch, marks, values, past, totals, windows, ticks, true, last, used, end, true,
-            );
+            page.bad(&mut line, moving.ticks, word, answer as u64);
+            let halted = moving.watch(watch, true);
+            page.foot(&halted);
+            return Ran {
+                watch: halted,
+                before: last,
+                used,
+                at: page.at,
+                ended: true,
+            };
         }
-        place = put_ok(ticks, word, &digits, &mut line, from, out, place);
-        from = count_on(ticks, from, &mut line);
-        count_met(watch.letters, &marks, &mut totals);
-        ticks = ticks + 1;
-        past = word;
+        page.good(&mut line, moving.ticks, word);
+        line.count_on(moving.ticks);
+        count_met(watch.letters, &moving.marks, &mut moving.totals);
+        moving.ticks += 1;
+        moving.past = word;
         last = word;
-        used += next.length;
+        used += record.length;
     }
 }

@@ -1,36 +1,28 @@
 -- The passes over whole traces: what holds at the head of each loop. Assumes nothing.
 use mathlib.Core.Path.{◌≡◌, refl, sym, ap, ap₂, ◌∙◌, subst}
-use mathlib.Core.Logic.{⊎_elim}
 use mathlib.Core.List.{List, [], ◌∷◌, ◌++◌, append_assoc, append-nil}
-use Prim.Native.Nat.{ℕ, suc, ◌+◌, ◌-◌, ◌*◌, ◌≤◌, ◌<◌}
-use native.Mathlib.Nat.{zero-add, add-zero, add_assoc, suc-add, add-suc, le_refl, le_of_eq}
+use Prim.Native.Nat.{ℕ, ◌+◌, ◌-◌, ◌*◌, ◌≤◌, ◌<◌}
+use native.Mathlib.Nat.{zero-add, add-zero, add_assoc, suc-add, add-suc, le_of_eq}
 use native.Mathlib.Numerals.{add-one}
 use native.Mathlib.Omega.{arith}
-use lib.ListN.{length, get_or, take, drop, set, length-drop, length-set, length-append, take-append-drop, drop_of_length-le}
-use lib.Seq.{drop-drop, drop-cons, take-suc-set, drop-set-lt, length-take-le, take_at, drop_at}
-use denote.Enum.Declared.{tag_of}
-use types.Run.{OneOf}
-use Rattle.refusals.specs.Numbers.{torn, idle_byte}
+use lib.ListN.{length, get_or, take, drop, set, length-drop, length-append, take-append-drop, drop_of_length-le}
+use lib.Seq.{drop-drop, drop-cons, take-suc-set, length-take-le, take_all, take_at, drop_at}
 use Rattle.trace.specs.Answer.{Answer, value, refused}
 use Rattle.trace.specs.Record.{Item, word, end, read_record, written}
-use Rattle.trace.specs.Whole.{write_all, write_trace, after, read_rest, read_trace, counted, lend_answer}
-use Rattle.trace.specs.Shown.{shown_read}
-use Rattle.trace.specs.declared.Read.{Read}
-use Rattle.trace.specs.declared.Read.TheVariants as read
-use Rattle.trace.specs.contracts.Read.{the_type}
-use Rattle.trace.proofs.Lending.{lend-fits}
+use Rattle.trace.specs.Whole.{write_all, write_trace, after, placed, read_at, read_rest, read_trace, counted}
 use Rattle.trace.proofs.Lists.{part-rest}
+use Rattle.trace.proofs.Reading.{at-drop}
 use Rattle.trace.proofs.Clash.{clash}
 use Rattle.trace.proofs.Writing.{written-le}
 use Rattle.trace.proofs.Traces.{word-length, rest-word, rest_end, rest-refused}
 
--- the reader answered r for the part of the trace from `at` on
-abbrev Answers : List ℕ → ℕ → ℕ → Read → Type 0
-Answers trace at before r = shown_read r ≡ read_record (take (length trace - at) (drop at trace)) before
+placed-value : (at : ℕ) (a : Answer Item) (x : Item) → placed at a ≡ value x → a ≡ value x
+placed-value at (value y) x e = e
+placed-value at (refused number place) x e = clash (cc)
 
--- and r was found to be the variant s
-read_is : (trace : List ℕ) (at before : ℕ) (r s : Read) → Answers trace at before r → r ≡ s → read_record (drop at trace) before ≡ shown_read s
-read_is trace at before r s e f = rw (← part-rest at trace) (sym e ∙ ap shown_read f)
+-- what is read at a position within a trace is read from the bytes there on
+read_is : (trace : List ℕ) (at before : ℕ) (x : Item) → at ≤ length trace → value x ≡ read_at trace at before → read_record (drop at trace) before ≡ value x
+read_is trace at before x h e = placed-value at _ x (sym (at-drop trace at before h) ∙ sym e)
 
 -- a record that is read lies within the trace
 word-within : (trace : List ℕ) (at before w k : ℕ) → at ≤ length trace → read_record (drop at trace) before ≡ value (word w k)
@@ -68,26 +60,24 @@ unfolding read_trace
 counting-none trace = record { within = omega arith; slow = omega arith; same = more-none (read_rest 0 trace 0) }
 
 module _ (trace : List ℕ) (at before n : ℕ) (m : Counting trace at before n) where
-  pub counting-word : (r : Read) (w k : ℕ) → Answers trace at before r → r ≡ read.Word w k → Counting trace (at + k) w (n + 1)
-  counting-word r w k a f =
-      let e = read_is trace at before r (read.Word w k) a f in
+  pub counting-word : (w k : ℕ) → value (word w k) ≡ read_at trace at before → Counting trace (at + k) w (n + 1)
+  counting-word w k a =
+      let e = read_is trace at before (word w k) m.within a in
       let p = word-within trace at before w k m.within e in record {
         within = p.1;
         slow = omega (arith, m.slow, p.0);
         same = m.same ∙ ap (more_than n) (step-word trace at before w k e) ∙ more-after n w (read_rest (at + k) (drop (at + k) trace) w);
       }
 
-  pub counting-end : (r : Read) → Answers trace at before r → r ≡ read.End → value n ≡ counted (read_trace trace)
-  counting-end r a f = let e = read_is trace at before r read.End a f in sym (m.same ∙ ap (more_than n) (rest_end at (drop at trace) before e) ∙ ap value (add-zero n))
+  pub counting-end : value end ≡ read_at trace at before → value n ≡ counted (read_trace trace)
+  counting-end a = sym (m.same ∙ ap (more_than n) (rest_end at (drop at trace) before (read_is trace at before end m.within a)) ∙ ap value (add-zero n))
 
-  counting-refused : (number place : ℕ) → read_record (drop at trace) before ≡ refused number place → refused number at ≡ counted (read_trace trace)
-  counting-refused number place e = sym (m.same ∙ ap (more_than n) (rest-refused at (drop at trace) before number place e))
-
-  pub counting-torn : (r : Read) (place : ℕ) → Answers trace at before r → r ≡ read.Torn place → refused torn at ≡ counted (read_trace trace)
-  counting-torn r place a f = counting-refused torn place (read_is trace at before r (read.Torn place) a f)
-
-  pub counting-idle : (r : Read) (place : ℕ) → Answers trace at before r → r ≡ read.Idle place → refused idle_byte at ≡ counted (read_trace trace)
-  counting-idle r place a f = counting-refused idle_byte place (read_is trace at before r (read.Idle place) a f)
+  pub counting-refused : (number place : ℕ) → refused number place ≡ read_at trace at before → refused number place ≡ counted (read_trace trace)
+  counting-refused number place e = go (read_record (drop at trace) before) refl (e ∙ at-drop trace at before m.within)
+    where
+      go : (a : Answer Item) → read_record (drop at trace) before ≡ a → refused number place ≡ placed at a → refused number place ≡ counted (read_trace trace)
+      go (value x) f p = clash (cc)
+      go (refused why from) f p = let h = m.same ∙ ap (more_than n) (rest-refused at (drop at trace) before why from f) in cc (h, p)
 
 -- ---- storing the words of a trace
 
@@ -103,12 +93,9 @@ behind-after : (ws : List ℕ) (w : ℕ) (r : Answer (List ℕ)) → behind ws (
 behind-after ws w (value us) = ap value (sym (append_assoc ws (w ∷ []) us))
 behind-after ws w (refused number place) = refl
 
--- the first i words are stored, and the rest is as it was lent
-pub record Filling (trace lent words : List ℕ) (n at before i : ℕ) : Type 0 where
+-- the first i words are stored
+pub record Filling (trace words : List ℕ) (at before i : ℕ) : Type 0 where
   pub within : at ≤ length trace
-  pub up_to : i ≤ n
-  pub long : length words ≡ length lent
-  pub kept : drop i words ≡ drop i lent
   pub same : read_trace trace ≡ behind (take i words) (read_rest at (drop at trace) before)
 
 none_left : (r : Answer (List ℕ)) (ws : List ℕ) (rest : Answer (List ℕ)) (n : ℕ) → r ≡ behind ws rest → counted r ≡ value n → length ws ≡ n → r ≡ value ws
@@ -119,57 +106,46 @@ none_left r ws (value (u ∷ us)) n e c l =
     absurd (omega (arith, j, l, length-append ws (u ∷ us)))
 none_left r ws (refused number place) n e c l = clash (cc (ap counted e))
 
-drop-next : (i : ℕ) (a b : List ℕ) → drop i a ≡ drop i b → drop (suc i) a ≡ drop (suc i) b
-drop-next i a b e = rw (← add-one i, ← drop-drop 1 i a, ← drop-drop 1 i b, e)
-
-pub filling-none : (trace lent : List ℕ) (n : ℕ) → Filling trace lent lent n 0 0 0
+pub filling-none : (trace lent : List ℕ) → Filling trace lent 0 0 0
 unfolding read_trace
-filling-none trace lent n =
-    record { within = omega arith; up_to = omega arith; long = refl; kept = refl; same = behind-nil (read_rest 0 trace 0) }
+filling-none trace lent = record { within = omega arith; same = behind-nil (read_rest 0 trace 0) }
 
-module _ (trace lent words : List ℕ) (n at before i : ℕ) (m : Filling trace lent words n at before i)
-    (many : counted (read_trace trace) ≡ value n) (room : n ≤ length lent) where
-  pub filling-word : (r : Read) (w k : ℕ) → i < n → Answers trace at before r → r ≡ read.Word w k
-      → Filling trace lent (set words i w) n (at + k) w (i + 1)
-  filling-word r w k h a f =
-      let e = read_is trace at before r (read.Word w k) a f in
-      let p = word-within trace at before w k m.within e in
-      let l : i < length words = omega (arith, m.long) in rw (add-one i) record {
+module _ (trace words : List ℕ) (at before i : ℕ) (m : Filling trace words at before i) where
+  pub filling-word : (w k : ℕ) → i < length words → value (word w k) ≡ read_at trace at before → Filling trace (set words i w) (at + k) w (i + 1)
+  filling-word w k h a =
+      let e = read_is trace at before (word w k) m.within a in
+      let p = word-within trace at before w k m.within e in rw (add-one i) record {
         within = p.1;
-        up_to = h;
-        long = length-set words i w ∙ m.long;
-        kept = drop-set-lt (suc i) words i w (le_refl (suc i)) ∙ drop-next i words lent m.kept;
         same = m.same ∙ ap (behind (take i words)) (step-word trace at before w k e)
             ∙ behind-after (take i words) w (read_rest (at + k) (drop (at + k) trace) w)
-            ∙ ap (λ (l : List ℕ). behind l (read_rest (at + k) (drop (at + k) trace) w)) (sym (take-suc-set words i w l));
+            ∙ ap (λ (l : List ℕ). behind l (read_rest (at + k) (drop (at + k) trace) w)) (sym (take-suc-set words i w h));
       }
 
-  filling-more : i < n → (r : Answer Item) → read_record (drop at trace) before ≡ r → ((w k : ℕ) → r ≡ value (word w k) → ⊥) → ⊥
-  filling-more h (value (word w k)) e other = other w k refl
-  filling-more h (value end) e other =
-      let all : read_trace trace ≡ value (take i words) = m.same ∙ rw (rest_end at (drop at trace) before e, append-nil) in
-      let l : value (length (take i words)) ≡ value n = sym (ap counted all) ∙ many in
-      let k : length (take i words) ≡ n = cc in
-      omega (arith, k, length-take-le i words (omega (arith, m.long)))
-  filling-more h (refused number place) e other =
-      let all : read_trace trace ≡ refused number at = m.same ∙ rw (rest-refused at (drop at trace) before number place e) in
-      clash (cc (ap counted all))
+  module _ (n : ℕ) (many : counted (read_trace trace) ≡ value n) (long : length words ≡ n) where
+    filling-end : i < n → read_record (drop at trace) before ≡ value end → ⊥
+    filling-end h e =
+        let all : read_trace trace ≡ value (take i words) = m.same ∙ rw (rest_end at (drop at trace) before e, append-nil) in
+        let l : value (length (take i words)) ≡ value n = sym (ap counted all) ∙ many in
+        let k : length (take i words) ≡ n = cc in
+        omega (arith, k, length-take-le i words (omega (arith, long)))
 
-  -- while words are missing, the next record is a word
-  pub filling-never : (r : Read) → i < n → Answers trace at before r → OneOf (1 ∷ 2 ∷ 3 ∷ []) (tag_of the_type r) → ⊥
-  filling-never (read.Word w k) h a t = ⊎_elim (λ e. omega arith) (λ u. ⊎_elim (λ e. omega arith) (λ e. omega arith) u) t
-  filling-never read.End h a t = filling-more h (value end) (read_is trace at before read.End read.End a refl) (λ w k e. clash (cc))
-  filling-never (read.Torn p) h a t = filling-more h (refused torn p) (read_is trace at before (read.Torn p) (read.Torn p) a refl) (λ w k e. clash (cc))
-  filling-never (read.Idle p) h a t = filling-more h (refused idle_byte p) (read_is trace at before (read.Idle p) (read.Idle p) a refl) (λ w k e. clash (cc))
+    -- while words are missing, the trace is not at its end, and its next record is not refused
+    pub filling-no-end : i < n → value end ≡ read_at trace at before → ⊥
+    filling-no-end h a = filling-end h (read_is trace at before end m.within a)
 
-  pub filling-done : n ≤ i → words ≡ (lend_answer (read_trace trace) lent).list
-  unfolding lend_answer
-  filling-done h =
-      let e : i ≡ n = omega (arith, m.up_to) in
-      let l : length (take i words) ≡ n = length-take-le i words (omega (arith, m.long)) ∙ e in
-      rw (none_left (read_trace trace) (take i words) (read_rest at (drop at trace) before) n m.same many l)
-      (lend-fits (take i words) lent n (sym l) words room
-      (sym (take-append-drop i words) ∙ ap (λ (d : List ℕ). take i words ++ d) (m.kept ∙ ap (λ (k : ℕ). drop k lent) e))).1
+    pub filling-not-refused : (number place : ℕ) → refused number place ≡ read_at trace at before → ⊥
+    filling-not-refused number place e = go (read_record (drop at trace) before) refl (e ∙ at-drop trace at before m.within)
+      where
+        go : (a : Answer Item) → read_record (drop at trace) before ≡ a → refused number place ≡ placed at a → ⊥
+        go (value x) f p = clash (cc)
+        go (refused why from) f p =
+            let all : read_trace trace ≡ refused why at = m.same ∙ rw (rest-refused at (drop at trace) before why from f) in
+            clash (cc (ap counted all))
+
+    pub filling-done : n ≤ i → value words ≡ read_trace trace
+    filling-done h =
+        let l : take i words ≡ words = take_all i words (omega (arith, long)) in
+        sym (none_left (read_trace trace) words (read_rest at (drop at trace) before) n (rw l at m.same) many long)
 
 -- ---- measuring the trace of a list of words
 

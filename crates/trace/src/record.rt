@@ -5,7 +5,14 @@ ghost use Rattle.trace.specs.Record.{bit, byte, count, changes, record_of, writt
 ghost use Rattle.trace.specs.Whole.{read_at, lend};
 ghost use Rattle.trace.specs.Shown.{shown_read, shown_written, shown_merged};
 
-use super::{Read, Written};
+use super::TraceError;
+
+/// A record that was read: its word, and its length in bytes.
+#[derive(Clone, Copy, Debug, PartialEq, Eq)]
+pub struct Record {
+    pub word: u64,
+    pub length: usize,
+}
 
 // Bit i of a map.
 fn bit(i: usize, map: u8) -> u8
@@ -38,68 +45,76 @@ fn at_place(b: u8, i: usize) -> u64
     (b as u64) << (8 * i)
 }
 
-// What the bytes behind a map byte make of the word before.
-#[derive(Drop)]
-enum Merged {
-    Word(u64),
-    Idle,
-}
-
-fn merge(given: &[u8], before: u64, map: u8) -> Merged
+// What the bytes behind a map byte make of the word before, or nothing where one of them is idle.
+fn merge(given: &[u8], before: u64, map: u8) -> Option<u64>
     requires { count 8 map ≤ length given.now }
     ensures { (n : ℕ) → shown_merged result n ≡ judged false (idle 8 before map given.now) (word (merged before map given.now) n) }
 {
     let mut word: u64 = 0;
+    // a position by hand: it goes on only where a bit stands, and an iterator's `next` would have to
+    // be told that a byte is left
     let mut at: usize = 0;
-    let mut i: usize = 0;
-    while i < 8 {
+    for i in 0..8 {
         let old = byte(i, before);
         let mut new = old;
         if bit(i, map) == 1 {
             new = given[at];
             at += 1;
             if new == old {
-                return Merged::Idle;
+                return None;
             }
         }
         word += at_place(new, i);
-        i += 1;
     }
-    Merged::Word(word)
+    Some(word)
 }
 
-// Reads the record that begins where `rest` does. `before` is the word before it.
-pub fn read_record(rest: &[u8], before: u64) -> Read
+/// Reads the record that begins where `rest` does. `before` is the word before it.
+pub fn read_record(rest: &[u8], before: u64) -> Result<Option<Record>, TraceError>
     ensures { shown_read result ≡ read_record rest.now before }
 {
-    if rest.len() == 0 {
-        return Read::End;
-    }
-    let map = rest[0];
-    let given = &rest[1..];
-    let follow = count(map);
+    let Some((map, given)) = rest.split_first() else {
+        return Ok(None);
+    };
+    let follow = count(*map);
     if given.len() < follow {
-        return Read::Torn(0);
+        return Err(TraceError::Torn(0));
     }
-    match merge(given, before, map) {
-        Merged::Word(word) => Read::Word(word, 1 + follow),
-        Merged::Idle => Read::Idle(0),
+    let Some(word) = merge(given, before, *map) else {
+        return Err(TraceError::Idle(0));
+    };
+    Ok(Some(Record {
+        word,
+        length: 1 + follow,
+    }))
+}
+
+// Reads the record that begins at byte `at` of a trace, which is not past its end. Reading itself goes by the part from there on:
+// with the position handed on to it, it is a fifth slower where most bytes change.
+pub(crate) fn read_within(
+    trace: &[u8],
+    at: usize,
+    before: u64,
+) -> Result<Option<Record>, TraceError>
+    requires { at ≤ length trace.now }
+    ensures { shown_read result ≡ read_at trace.now at before }
+{
+    match read_record(&trace[at..], before) {
+        Ok(item) => Ok(item),
+        Err(TraceError::Torn(_)) => Err(TraceError::Torn(at)),
+        Err(TraceError::Idle(_)) => Err(TraceError::Idle(at)),
+        Err(TraceError::Short) => Err(TraceError::Short),
     }
 }
 
-// Reads the record that begins at byte `at` of a trace, and names that byte where it refuses.
-pub fn read_at(trace: &[u8], at: usize, before: u64) -> Read
+/// Reads the record that begins at byte `at` of a trace, and names that byte where it refuses.
+pub fn read_at(trace: &[u8], at: usize, before: u64) -> Result<Option<Record>, TraceError>
     ensures { shown_read result ≡ read_at trace.now at before }
 {
     if trace.len() < at {
-        return Read::Torn(at);
+        return Err(TraceError::Torn(at));
     }
-    match read_record(&trace[at..], before) {
-        Read::Word(word, length) => Read::Word(word, length),
-        Read::End => Read::End,
-        Read::Torn(_) => Read::Torn(at),
-        Read::Idle(_) => Read::Idle(at),
-    }
+    read_within(trace, at, before)
 }
 
 // The map of the bytes that changed.
@@ -107,12 +122,10 @@ fn changes(before: u64, word: u64) -> u8
     ensures { result ≡ changes before word }
 {
     let mut map: u8 = 0;
-    let mut i: usize = 0;
-    while i < 8 {
+    for i in 0..8 {
         if byte(i, before) != byte(i, word) {
             map += 1 << i;
         }
-        i += 1;
     }
     map
 }
@@ -123,28 +136,27 @@ fn put(map: u8, word: u64, out: &mut [u8])
     ensures { out.new ≡ record_of map word ++ drop (1 + count 8 map) out.old }
 {
     out[0] = map;
+    // a position by hand: it goes on only where a bit stands
     let mut at: usize = 1;
-    let mut i: usize = 0;
-    while i < 8 {
+    for i in 0..8 {
         if bit(i, map) == 1 {
             out[at] = byte(i, word);
             at += 1;
         }
-        i += 1;
     }
 }
 
-// Writes the record of a word, after the word before it, at the start of a lent buffer.
-pub fn write_record(before: u64, word: u64, out: &mut [u8]) -> Written
+/// Writes the record of a word, after the word before it, at the start of a lent buffer.
+pub fn write_record(before: u64, word: u64, out: &mut [u8]) -> Result<usize, TraceError>
     ensures { (shown_written result ≡ (lend (written before word) out.old).answer) × (out.new ≡ (lend (written before word) out.old).list) }
 {
     let map = changes(before, word);
     let length = 1 + count(map);
     if out.len() < length {
-        return Written::Short;
+        return Err(TraceError::Short);
     }
     put(map, word, out);
-    Written::Length(length)
+    Ok(length)
 }
 
 // The length of the record of a word.

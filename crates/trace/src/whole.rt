@@ -6,76 +6,65 @@ ghost use Rattle.trace.specs.Answer.{value};
 ghost use Rattle.trace.specs.Whole.{write_trace, read_trace, counted, lend, lend_answer};
 ghost use Rattle.trace.specs.Shown.{shown_trace, shown_written};
 
-use super::record::{put_record, read_record, record_length};
-use super::{Read, TraceRead, Written};
+use super::TraceError;
+use super::record::{Record, put_record, read_within, record_length};
 
-// How many words a trace holds, where all of its records are right.
-pub fn count_words(trace: &[u8]) -> TraceRead
+/// How many words a trace holds, where all of its records are right.
+pub fn count_words(trace: &[u8]) -> Result<usize, TraceError>
     ensures { shown_trace result ≡ counted (read_trace trace.now) }
 {
     let mut at: usize = 0;
     let mut before: u64 = 0;
     let mut n: usize = 0;
-    loop {
-        match read_record(&trace[at..], before) {
-            Read::Word(word, length) => {
-                at += length;
-                before = word;
-                n += 1;
+    while let Some(Record { word, length }) = read_within(trace, at, before)? {
+        at += length;
+        before = word;
+        n += 1;
+    }
+    Ok(n)
+}
+
+// Stores the words of a trace whose records are right, one for each element of the list.
+fn fill(trace: &[u8], words: &mut [u64])
+    requires { counted (read_trace trace.now) ≡ value (length words.old) }
+    ensures { value words.new ≡ read_trace trace.now }
+{
+    let mut at: usize = 0;
+    let mut before: u64 = 0;
+    for word in words.iter_mut() {
+        match read_within(trace, at, before) {
+            Ok(Some(record)) => {
+                *word = record.word;
+                at += record.length;
+                before = record.word;
             }
-            Read::End => return TraceRead::Words(n),
-            Read::Torn(_) => return TraceRead::Torn(at),
-            Read::Idle(_) => return TraceRead::Idle(at),
+            Ok(None) => return,
+            Err(_) => return,
         }
     }
 }
 
-// Stores the n words of a trace whose records are right.
-fn fill(trace: &[u8], n: usize, words: &mut [u64])
-    requires { (counted (read_trace trace.now) ≡ value n) × (n ≤ length words.old) }
-    ensures { words.new ≡ (lend_answer (read_trace trace.now) words.old).list }
-{
-    let mut at: usize = 0;
-    let mut before: u64 = 0;
-    let mut i: usize = 0;
-    while i < n {
-        let Read::Word(word, length) = read_record(&trace[at..], before) else {
-            return;
-        };
-        words[i] = word;
-        before = word;
-        at += length;
-        i += 1;
-    }
-}
-
-// Reads a trace into a lent list of words.
-pub fn read_trace(trace: &[u8], words: &mut [u64]) -> TraceRead
+/// Reads a trace into a lent list of words.
+pub fn read_trace(trace: &[u8], words: &mut [u64]) -> Result<usize, TraceError>
     ensures { (shown_trace result ≡ (lend_answer (read_trace trace.now) words.old).answer) × (words.new ≡ (lend_answer (read_trace trace.now) words.old).list) }
 {
-    let answer = count_words(trace);
-    let TraceRead::Words(n) = answer else {
-        return answer;
-    };
+    let n = count_words(trace)?;
     if words.len() < n {
-        return TraceRead::Short;
+        return Err(TraceError::Short);
     }
-    fill(trace, n, words);
-    answer
+    fill(trace, &mut words[..n]);
+    Ok(n)
 }
 
-// The length of the trace of a list of words.
+/// The length of the trace of a list of words.
 pub fn trace_length(words: &[u64]) -> usize
     ensures { result ≡ length (write_trace words.now) }
 {
     let mut n: usize = 0;
     let mut before: u64 = 0;
-    let mut i: usize = 0;
-    while i < words.len() {
-        let word = words[i];
+    for &word in words {
         n += record_length(before, word);
         before = word;
-        i += 1;
     }
     n
 }
@@ -87,23 +76,20 @@ fn put_all(words: &[u64], out: &mut [u8])
 {
     let mut at: usize = 0;
     let mut before: u64 = 0;
-    let mut i: usize = 0;
-    while i < words.len() {
-        let word = words[i];
+    for &word in words {
         at += put_record(before, word, &mut out[at..]);
         before = word;
-        i += 1;
     }
 }
 
-// Writes the trace of a list of words into a lent buffer.
-pub fn write_trace(words: &[u64], out: &mut [u8]) -> Written
+/// Writes the trace of a list of words into a lent buffer.
+pub fn write_trace(words: &[u64], out: &mut [u8]) -> Result<usize, TraceError>
     ensures { (shown_written result ≡ (lend (write_trace words.now) out.old).answer) × (out.new ≡ (lend (write_trace words.now) out.old).list) }
 {
     let length = trace_length(words);
     if out.len() < length {
-        return Written::Short;
+        return Err(TraceError::Short);
     }
     put_all(words, out);
-    Written::Length(length)
+    Ok(length)
 }

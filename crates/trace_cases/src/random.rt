@@ -20,30 +20,17 @@ fn changed(before: u64, state: u64) -> u64 {
 
 fn fill(words: &mut [u64]) {
     let mut state: u64 = 88_172_645_463_325_252;
-    let mut word: u64 = 0;
-    let mut i = 0;
-    while i < words.len() {
+    let mut before: u64 = 0;
+    for word in words.iter_mut() {
         state = next(state);
-        word = changed(word, state);
-        words[i] = word;
-        i += 1;
+        before = changed(before, state);
+        *word = before;
     }
 }
 
 // How many places two lists agree at.
 fn agreeing(a: &[u64], b: &[u64]) -> usize {
-    let mut n = 0;
-    let mut i = 0;
-    while i < a.len() {
-        if b.len() <= i {
-            return n;
-        }
-        if a[i] == b[i] {
-            n += 1;
-        }
-        i += 1;
-    }
-    n
+    a.iter().zip(b).filter(|(x, y)| x == y).count()
 }
 
 fn through(
@@ -53,17 +40,17 @@ fn through(
     back: &mut [u64],
 ) -> io::Result<()> {
     fill(words);
-    show::counted(rt, "length ", trace::trace_length(words))?;
+    show::counted(rt, "length", trace::trace_length(words))?;
     let written = trace::write_trace(words, records);
-    show::written(rt, written)?;
-    let trace::Written::Length(length) = written else {
+    show::answer(rt, "written", written)?;
+    let Ok(length) = written else {
         return Ok(());
     };
-    if records.len() < length {
+    let Some(records) = records.get(..length) else {
         return Ok(());
-    }
-    show::trace(rt, trace::read_trace(&records[0..length], back))?;
-    show::counted(rt, "agreeing ", agreeing(words, back))
+    };
+    show::answer(rt, "words", trace::read_trace(records, back))?;
+    show::counted(rt, "agreeing", agreeing(words, back))
 }
 
 pub fn there_and_back(rt: &impl Print) -> io::Result<()> {

@@ -1,183 +1,121 @@
 // Looks and takes on the watch of a text, a printed line for each, and the totals.
-use crate::cases::wide;
-use crate::page::{put, put_number};
-use monitor::{Answer, Taken, look, take};
-use rules::{Outcome, Watch};
-use sheet::totals;
+ghost use Rattle.std.specs.Prelude.{◌≤◌, length};
 
-// A call is the letter L or T, and a word of eight bytes, lowest first.
+use monitor::{Fault, look, take};
+use rules::{Counts, Refused, Watch};
+use sheet::totals;
+use std::io;
+use std::io::{Cursor, Write};
+
+// How many bytes a call has: the letter L or T, and a word of eight bytes, lowest first.
 const CALL: usize = 9;
 
-const LOOK: u8 = b'L';
-
-const TAKE: u8 = b'T';
-
-// A word and a number.
-fn put_worded(page: &mut [u8], at: usize, word: &[u8], n: u64) -> usize {
-    let to = put(page, at, word);
-    put_number(page, to, n)
+#[derive(Clone, Copy)]
+enum Call {
+    Look(u64),
+    Take(u64),
 }
 
-// And the end of the line.
-fn put_numbered(page: &mut [u8], at: usize, word: &[u8], n: u64) -> usize {
-    let to = put_worded(page, at, word, n);
-    put(page, to, b"\n")
-}
-
-fn put_letter(page: &mut [u8], at: usize, letter: u8) -> usize {
-    if letter == LOOK {
-        return put(page, at, b"look ");
+// The call that those bytes are.
+fn call_of(bytes: &[u8]) -> Option<Call> {
+    let (letter, word) = bytes.split_first()?;
+    let word = u64::from_le_bytes(*word.first_chunk::<8>()?);
+    match *letter {
+        b'L' => Some(Call::Look(word)),
+        b'T' => Some(Call::Take(word)),
+        _ => None,
     }
-    put(page, at, b"take ")
-}
-
-fn put_answer(page: &mut [u8], at: usize, answer: Answer) -> usize {
-    match answer {
-        Answer::Ok => put(page, at, b"ok"),
-        Answer::Bad(number) => put_worded(page, at, b"bad ", number as u64),
-        Answer::Refused(number) => put_worded(page, at, b"refused ", number as u64),
-    }
-}
-
-// The end of a call's line: a take has the rows that it touched.
-fn put_touched(page: &mut [u8], at: usize, letter: u8, touched: usize) -> usize {
-    if letter == LOOK {
-        return put(page, at, b"\n");
-    }
-    put_numbered(page, at, b" touched ", touched as u64)
-}
-
-fn put_refusal(page: &mut [u8], number: u8) -> usize {
-    let to = put(page, 0, b"refused ");
-    put_number(page, to, number as u64)
-}
-
-// The first line: both counts, or the refusal.
-fn put_outcome(page: &mut [u8], outcome: Outcome) -> usize {
-    match outcome {
-        Outcome::Open(rows, letters) => {
-            let to = put(page, 0, b"rows ");
-            let to = put_number(page, to, rows as u64);
-            put_numbered(page, to, b" letters ", letters as u64)
-        }
-        Outcome::AtByte(number, place) => {
-            let to = put_refusal(page, number);
-            put_numbered(page, to, b" ", place as u64)
-        }
-        Outcome::AtLetter(number, monitor, letter) => {
-            let to = put_refusal(page, number);
-            let to = put(page, to, b" ");
-            let to = put_number(page, to, monitor as u64);
-            put_numbered(page, to, b" ", letter as u64)
-        }
-    }
-}
-
-fn is_open(outcome: Outcome) -> bool {
-    match outcome {
-        Outcome::Open(_, _) => true,
-        Outcome::AtByte(_, _) => false,
-        Outcome::AtLetter(_, _, _) => false,
-    }
-}
-
-fn byte_at(bytes: &[u8], at: usize) -> u64 {
-    if bytes.len() <= at {
-        return 0;
-    }
-    wide(bytes[at]) as u64
-}
-
-// The word of the call at the front.
-fn word_of(calls: &[u8]) -> u64 {
-    let low = byte_at(calls, 1)
-        | byte_at(calls, 2) << 8
-        | byte_at(calls, 3) << 16
-        | byte_at(calls, 4) << 24;
-    let high = byte_at(calls, 5)
-        | byte_at(calls, 6) << 8
-        | byte_at(calls, 7) << 16
-        | byte_at(calls, 8) << 24;
-    low | high << 32
-}
-
-fn is_call(letter: u8) -> bool {
-    if letter == LOOK {
-        return true;
-    }
-    letter == TAKE
 }
 
 // Whether the bytes are whole calls.
 pub fn are_calls(bytes: &[u8]) -> bool {
-    let mut at: usize = 0;
-    while at < bytes.len() {
-        if bytes.len() - at < CALL {
-            return false;
+    bytes.chunks(CALL).all(|call| call_of(call).is_some())
+}
+
+fn put_answer(page: &mut impl Write, answer: Result<(), Fault>) -> io::Result<()> {
+    match answer {
+        Ok(()) => write!(page, "ok"),
+        Err(Fault::Bad(number)) => write!(page, "bad {number}"),
+        Err(Fault::Refused(refusal)) => write!(page, "refused {}", refusal.number()),
+    }
+}
+
+// The first line: both counts, or the refusal.
+fn put_outcome(page: &mut impl Write, outcome: Result<Counts, Refused>) -> io::Result<()> {
+    match outcome {
+        Ok(counts) => writeln!(page, "rows {} letters {}", counts.rows, counts.letters),
+        Err(Refused::AtByte(why, place)) => writeln!(page, "refused {} {place}", why.number()),
+        Err(Refused::AtLetter(why, monitor, letter)) => {
+            writeln!(page, "refused {} {monitor} {letter}", why.number())
         }
-        if !is_call(bytes[at]) {
-            return false;
+    }
+}
+
+// The line of a call, and the watch after it. A look leaves the watch; a take's line has the rows that it touched.
+fn put_call(page: &mut impl Write, watch: Watch, call: Call) -> io::Result<Watch> {
+    match call {
+        Call::Look(word) => {
+            write!(page, "look ")?;
+            put_answer(page, look(watch, word))?;
+            writeln!(page, "")?;
+            Ok(watch)
         }
-        at += CALL;
+        Call::Take(word) => {
+            let taken = take(watch, word);
+            let touched = taken.touched;
+            write!(page, "take ")?;
+            put_answer(page, taken.answer)?;
+            writeln!(page, " touched {touched}")?;
+            Ok(taken.watch)
+        }
     }
-    true
 }
 
-// A look, which leaves the watch, or a take.
-fn call(watch: Watch, letter: u8, word: u64) -> Taken {
-    if letter == LOOK {
-        let answer = look(watch, word);
-        return Taken {
-            answer,
-            touched: 0,
-            watch,
-        };
-    }
-    take(watch, word)
-}
-
-// The totals of the watch, from a place of the page on: the place behind them, or that place if they reach beyond it.
-fn put_totals(watch: Watch, page: &mut [u8], at: usize) -> usize {
-    if page.len() < at {
-        return at;
-    }
-    let room = page.len() - at;
-    let count = totals(watch, &mut page[at..]);
-    if room < count {
-        return at;
-    }
-    at + count
-}
-
-// A line for each call, from place `from` of the page on, and the totals after them: the place behind.
-fn put_calls(opened: Watch, calls: &[u8], page: &mut [u8], from: usize) -> usize {
+// A line for each call, and the watch after all.
+fn put_calls(page: &mut impl Write, opened: Watch, calls: &[u8]) -> io::Result<Watch> {
     let mut watch = opened;
-    let mut to = from;
-    let mut at: usize = 0;
-    while at < calls.len() {
-        if calls.len() - at < CALL {
-            return to;
-        }
-        let next = at + CALL;
-        let letter = calls[at];
-        let called = call(watch, letter, word_of(&calls[at..]));
-        let answer = called.answer;
-        to = put_letter(page, to, letter);
-        to = put_answer(page, to, answer);
-        to = put_touched(page, to, letter, called.touched);
-        watch = called.watch;
-        at = next;
+    for bytes in calls.chunks(CALL) {
+        let Some(call) = call_of(bytes) else {
+            return Ok(watch);
+        };
+        watch = put_call(page, watch, call)?;
     }
-    put_totals(watch, page, to)
+    Ok(watch)
 }
 
-// The first line for the text and, if it is accepted, one for each call and the totals: how many bytes of the page they take.
-pub fn print(text: &[u8], calls: &[u8], page: &mut [u8]) -> usize {
+// The first line for the text and, if it is accepted, one for each call: the watch after them.
+fn put_lines(page: &mut impl Write, text: &[u8], calls: &[u8]) -> io::Result<Option<Watch>> {
     let start = rules::open(text);
-    let outcome = start.outcome;
-    let to = put_outcome(page, outcome);
-    if !is_open(outcome) {
-        return to;
+    put_outcome(page, start.outcome)?;
+    if start.outcome.is_err() {
+        return Ok(None);
     }
-    put_calls(start.watch, calls, page, to)
+    let watch = put_calls(page, start.watch, calls)?;
+    Ok(Some(watch))
+}
+
+// The totals of the watch, if they fit: how many bytes of the page they take.
+fn put_totals(page: &mut [u8], watch: Watch) -> usize
+    ensures { result ≤ length page.new }
+{
+    let room = page.len();
+    let count = totals(watch, page);
+    if room < count {
+        return 0;
+    }
+    count
+}
+
+// These lines and the totals: how many bytes of the page they take. What does not fit is left out.
+pub fn print(text: &[u8], calls: &[u8], page: &mut [u8]) -> usize {
+    let mut lines = Cursor::new(&mut page[..]);
+    let put = put_lines(&mut lines, text, calls);
+    let end = lines.position() as usize;
+    let Ok(Some(watch)) = put else {
+        return end;
+    };
+    if page.len() < end {
+        return end;
+    }
+    end + put_totals(&mut page[end..], watch)
 }

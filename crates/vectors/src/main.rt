@@ -7,7 +7,6 @@ mod calls;
 mod cases;
 mod input;
 mod limits;
-mod page;
 mod sheets;
 mod show;
 

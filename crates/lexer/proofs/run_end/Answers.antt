@@ -1,24 +1,28 @@
 -- The answers to the goals of `lexer::run_end`.
-use mathlib.Core.Path.{refl}
-use borrow.Author.Rules.{rules}
-use Rattle.lexer.proofs.Runs.{run_ends, run-goes, run-stops, run_past}
-use Rattle.lexer.proofs.ByteClass.{below-classes, above-classes, within-classes}
+use mathlib.Core.Path.{sym, ◌∙◌, ap}
+use Prim.Native.Nat.{ℕ, ◌+◌}
+use native.Mathlib.Omega.{arith}
+use lib.ListN.{drop, length-drop}
+use Rattle.lexer.proofs.Runs.{rest, run_ends, run-goes, run-stops, run_past, run_length}
 use Rattle.lexer.proofs.run_end.Goals as goal
 
-pub loop-i-init : goal.loop-i-init
-loop-i-init c = refl
-
-pub class_of-class-requires : goal.class_of-class-requires
-class_of-class-requires c = c.requires
-
-pub returns-then-class-low : goal.returns-then-class-low
-returns-then-class-low c = run_ends _ _ _ _ c.loop-i.invariant (run-stops _ _ _ c.loop-i-test.true (below-classes _ _ _ _ c.class_of-class.ensures c.if-class-low.true))
-
-pub returns-then-high-class : goal.returns-then-high-class
-returns-then-high-class c = run_ends _ _ _ _ c.loop-i.invariant (run-stops _ _ _ c.loop-i-test.true (above-classes _ _ _ _ c.class_of-class.ensures c.if-high-class.true))
-
 pub loop-i-preserved : goal.loop-i-preserved
-loop-i-preserved c = run-goes _ _ _ _ c.loop-i.invariant (search rules) (within-classes _ _ _ _ c.class_of-class.ensures c.if-class-low.false c.if-high-class.false)
+loop-i-preserved g c =
+    λ test f.
+    run-goes test _ _ _ (c.loop-i.invariant test f)
+    (rw rest at c.loop-i-test.true)
+    (rw rest at (sym (f _ _ c.passes.ensures) ∙ c.if-not-passes.false))
 
-pub returns : goal.returns
-returns c = run_ends _ _ _ _ c.loop-i.invariant (run_past _ _ _ c.loop-i-test.false)
+pub returns-then-not-passes-clause-ends : goal.returns-then-not-passes-clause-ends
+returns-then-not-passes-clause-ends g c =
+    λ test f.
+    ap (λ (n : ℕ). c.args.from + n)
+    (run_ends test _ _ _ (c.loop-i.invariant test f)
+    (run-stops test _ _ (rw rest at c.loop-i-test.true) (rw rest at (sym (f _ _ c.passes.ensures) ∙ c.if-not-passes.true))))
+
+pub returns-clause-ends : goal.returns-clause-ends
+returns-clause-ends g c =
+    λ test f.
+    let past = rw rest at c.loop-i-test.false in
+    let e = run_ends test _ _ _ (c.loop-i.invariant test f) (run_past test _ _ past) in
+    omega (arith, e, past, length-drop c.args.from c.args.text.now, run_length test (drop c.args.from c.args.text.now), c.requires.from_in_bounds)

@@ -1,14 +1,13 @@
--- `lexer::run_end` meets its contract. The loop's invariant: the run from `from` ends where the run from `i` does.
+-- `lexer::run_end` meets its contract. The loop's invariant: the run from `from` ends where the run from `i` on ends.
 -- Assumes nothing.
 use mathlib.Core.Path.{◌≡◌}
-use Prim.Native.Nat.{◌+◌, ◌-◌}
+use mathlib.Core.Bool.{Bool}
+use Prim.Native.Nat.{ℕ, ◌+◌}
 use lib.ListN.{length, drop}
 use Rattle.lexer.specs.Bytes.{run}
-use Rattle.lexer.specs.Classes.{in_classes}
+use Rattle.lexer.specs.Inner.{Computes}
 use Rattle.lexer.proofs.run_end.Given as goal
 
 abbrev pub invariant-loop-i : goal.invariant-loop-i
-invariant-loop-i l = l.i + length (run (in_classes l.low l.high) (drop l.i l.text)) ≡ l.from + length (run (in_classes l.low l.high) (drop l.from l.text))
-
-abbrev pub decreases-loop-i : goal.decreases-loop-i
-decreases-loop-i l = length l.text - l.i
+invariant-loop-i g l = (test : ℕ → Bool) → Computes (goal.P-post g l.passes) test
+    → l.i + length (run test (drop l.i (drop l.from l.text))) ≡ length (run test (drop l.from l.text))

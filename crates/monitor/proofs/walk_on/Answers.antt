@@ -12,6 +12,6 @@ pub returns : goal.returns
 returns c =
     let a = c.args in
     let F = a.layout.now in
-    walk-within (given a.tables.now a.values.now a.words.now) (places_in F) (own_in F) (firsts_in F) (get_or F 576 0) (get_or F 577 0) a.marks.now a.memory.now _ _ _ _ _ _ _
-    (c.least-count.ensures ∙ ap (λ (n : ℕ). min n 32) c.monitors_in.ensures) (c.least-end.ensures ∙ ap (λ (n : ℕ). min n 256) c.letters_in.ensures) c.part3-from.ensures
-    c.part2.ensures c.least-to.ensures (c.shut_marked.ensures a.values.now a.words.now) c.monitors_go.ensures
+    walk-within (given a.tick.now.tables.now a.tick.now.values.now a.tick.now.words) (places_in F) (own_in F) (firsts_in F) (get_or F 576 0) (get_or F 577 0) a.marks.now a.memory.now _ _ _ _ _ _ _
+    (c.min-count.ensures ∙ ap (λ (n : ℕ). min n 32) c.monitors_in.ensures) (c.min-end.ensures ∙ ap (λ (n : ℕ). min n 256) c.letters_in.ensures) c.part3-from.ensures
+    c.part2.ensures c.min-to.ensures (c.shut_marked.ensures a.tick.now.values.now a.tick.now.words) c.monitors_go.ensures

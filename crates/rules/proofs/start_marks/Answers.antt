@@ -1,17 +1,18 @@
--- The answers to the goals of `rules::start_marks`.
+-- `rules::start_marks` meets its contract.
+-- Assumes nothing.
 use native.Mathlib.Omega.{arith}
-use mathlib.Core.Path.{◌≡◌, refl, ◌∙◌, ap}
-use mathlib.Core.List.{List}
-use lib.ListN.{replicate, set}
-use Rattle.rules.proofs.Starting.{marks-more}
-use Prim.Native.Nat.{ℕ, ◌+◌}
+use Prim.Native.Nat.{◌+◌, ◌-◌}
+use mathlib.Core.Path.{◌≡◌, ◌∙◌, ap}
+use lib.ListN.{length, take, replicate, length-replicate}
+use lib.Seq.{length-take-le}
+use Rattle.rules.proofs.Starting.{copied}
 use Rattle.rules.proofs.start_marks.Goals as goal
 
-pub loop-i-init : goal.loop-i-init
-loop-i-init c = (omega arith, refl)
-
-pub loop-i-preserved : goal.loop-i-preserved
-loop-i-preserved c = (omega arith, ap (λ (s : List ℕ). set s (256 + c.loop-i.i) 1) c.loop-i.invariant.1 ∙ marks-more (replicate 288 0) c.loop-i.i)
-
 pub returns : goal.returns
-returns c = let e : c.loop-i.i ≡ c.args.count = (let l = c.loop-i.invariant.0 in omega arith) in rw e at c.loop-i.invariant.1
+returns c =
+    let n = c.args.count in
+    let k = 256 + n - 256 in
+    let e : length (take k (replicate 32 0)) ≡ n = length-take-le k (replicate 32 0) (omega arith) ∙ omega arith in
+    copied (replicate 288 0) _ (replicate n 1) 256 k
+    (c.fill.ensures.after (λ y e. e) ∙ ap (λ m. replicate m 1) e)
+    (length-replicate n 1 ∙ omega arith) (omega arith)

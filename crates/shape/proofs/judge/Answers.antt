@@ -1,19 +1,20 @@
 -- `shape::judge` meets its contract. Assumes nothing.
+use mathlib.Core.Path.{refl}
 use Rattle.shape.proofs.Lowest.{lowest-from}
 use Rattle.shape.proofs.Answered.{judge-open, judge-fork, judge-fine}
 use Rattle.shape.proofs.judge.Goals as goal
 
 pub overflow_sub-result : goal.overflow_sub-result
-overflow_sub-result c = lowest-from _ _ _ c.lowest_open-open.ensures
+overflow_sub-result c = lowest-from _ _ _ c.in-Some.ensures.0
 
-pub returns-then-open-end : goal.returns-then-open-end
-returns-then-open-end c = judge-open _ _ _ _ _ _ _ _ c.lowest_open-open.ensures c.if-open-end.true
+pub returns-in-Some : goal.returns-in-Some
+returns-in-Some c = judge-open _ _ _ _ _ _ _ _ c.in-Some.ensures.0 c.in-Some.ensures.1
 
-pub overflow_sub-result-then-fork-end : goal.overflow_sub-result-then-fork-end
-overflow_sub-result-then-fork-end c = lowest-from _ _ _ c.lowest_fork-fork.ensures
+pub overflow_sub-result-in-Some-lowest_fork : goal.overflow_sub-result-in-Some-lowest_fork
+overflow_sub-result-in-Some-lowest_fork c = lowest-from _ _ _ c.in-Some-lowest_fork.ensures.0
 
-pub returns-then-fork-end : goal.returns-then-fork-end
-returns-then-fork-end c = judge-fork _ _ _ _ _ _ _ _ c.lowest_open-open.ensures c.if-open-end.false c.lowest_fork-fork.ensures c.if-fork-end.true
+pub returns-in-Some-lowest_fork : goal.returns-in-Some-lowest_fork
+returns-in-Some-lowest_fork c = judge-fork _ _ _ _ _ _ _ _ refl c.in_default.ensures c.in-Some-lowest_fork.ensures.0 c.in-Some-lowest_fork.ensures.1
 
 pub returns : goal.returns
-returns c = judge-fine _ _ _ _ _ _ _ _ c.lowest_open-open.ensures c.if-open-end.false c.lowest_fork-fork.ensures c.if-fork-end.false
+returns c = judge-fine _ _ _ _ _ _ _ _ refl c.in_default.ensures refl c.in_default-lowest_fork.ensures

@@ -1,11 +1,8 @@
 -- `windows::count_tick` meets its contract.
 -- Assumes nothing.
-use Rattle.std.proofs.Common.{◌≡◌, ◌-◌, ◌≤◌}
+use Rattle.std.proofs.Common.{◌≡◌}
 use Rattle.windows.specs.Windows.{counted}
 use Rattle.windows.proofs.count_tick.Given as goal
 
 abbrev pub invariant-loop-limit : goal.invariant-loop-limit
-invariant-loop-limit l = (l.limit ≤ l.limits) × (l.limits ≤ 8) × (l.windows ≡ counted l.initial.windows l.mask l.limit)
-
-abbrev pub decreases-loop-limit : goal.decreases-loop-limit
-decreases-loop-limit l = l.limits - l.limit
+invariant-loop-limit l = l.windows ≡ counted l.initial.windows l.mask l.limit

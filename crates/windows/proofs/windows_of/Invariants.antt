@@ -1,11 +1,8 @@
 -- `windows::windows_of` meets its contract.
 -- Assumes nothing.
-use Rattle.std.proofs.Common.{◌≡◌, ◌-◌, ◌≤◌}
+use Rattle.std.proofs.Common.{◌≡◌}
 use Rattle.windows.specs.Windows.{limited}
 use Rattle.windows.proofs.windows_of.Given as goal
 
 abbrev pub invariant-loop-limit : goal.invariant-loop-limit
-invariant-loop-limit l = (l.limit ≤ l.end) × (l.end ≤ 8) × (l.windows ≡ limited l.limits l.limit)
-
-abbrev pub decreases-loop-limit : goal.decreases-loop-limit
-decreases-loop-limit l = l.end - l.limit
+invariant-loop-limit l = l.windows ≡ limited l.limits l.limit

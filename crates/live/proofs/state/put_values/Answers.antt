@@ -1,20 +1,13 @@
--- The answers to the goals of `live::state::put_values`.
-use lib.ListN.{get_or}
-use mathlib.Core.Path.{◌≡◌, refl}
-use native.Mathlib.Omega.{arith}
-use Rattle.live.specs.State.{stored}
-use Rattle.live.proofs.StateSteps.{stored_next}
+-- The values, copied as a part, in `live::state::put_values`.
+use Rattle.std.proofs.Common.{◌≡◌, ◌∙◌, ◌++◌, ap, ap₂, refl, sym, List, ℕ, get_or, take, drop, arith}
+use Rattle.std.proofs.lemmas.List.{take_all, drop-drop}
+use borrow.Rule.Slice.PartMut.{put_mid}
+use Rattle.live.proofs.StateSteps.{part-stored}
 use Rattle.live.proofs.state.put_values.Goals as goal
 
-pub loop-i-preserved : goal.loop-i-preserved
-loop-i-preserved c =
-    let l = c.loop-i in
-    let a = c.args in
-    (omega arith, stored_next (λ j. get_or a.values.now j 0) 16 a.state.now l.state l.i _ l.invariant.1 refl)
-
 pub returns : goal.returns
-returns c = let l = c.loop-i in let e : l.i ≡ 16 = (let h = l.invariant.0 in omega arith) in rw e at l.invariant.1
-
-pub loop-i-init : goal.loop-i-init
-unfolding stored
-loop-i-init c = (omega arith, refl)
+returns c =
+    let S = c.args.state.now in
+    let σ = c.args.values.now in
+    let q : put_mid 16 16 S σ ≡ take 16 S ++ (take 16 σ ++ drop 32 S) = ap₂ (λ (y z : List ℕ). take 16 S ++ (y ++ z)) (sym (take_all 16 σ (omega arith))) (drop-drop 16 16 S) in
+    ap (put_mid 16 16 S) c.copy_from_slice.ensures.after ∙ q ∙ part-stored (λ i. get_or σ i 0) 16 16 S σ (omega arith) (omega arith) (λ j b. refl)

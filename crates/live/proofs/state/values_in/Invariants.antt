@@ -1,12 +1,7 @@
--- `live::state::values_in` meets its contract.
--- Assumes nothing.
-use Prim.Native.Nat.{◌-◌, ◌≤◌}
-use mathlib.Core.Path.{◌≡◌}
+-- What the loop of `live::state::values_in` keeps.
+use Rattle.std.proofs.Common.{◌≡◌}
 use Rattle.live.specs.State.{values_from}
 use Rattle.live.proofs.state.values_in.Given as goal
 
 abbrev pub invariant-loop-i : goal.invariant-loop-i
-invariant-loop-i l = (l.i ≤ 16) × (l.values ≡ values_from l.state l.i)
-
-abbrev pub decreases-loop-i : goal.decreases-loop-i
-decreases-loop-i l = 16 - l.i
+invariant-loop-i l = l.values ≡ values_from l.state l.i

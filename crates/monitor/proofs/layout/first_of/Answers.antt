@@ -1,8 +1,7 @@
 -- `monitor::layout::first_of` meets its contract.
 -- Assumes nothing.
-use mathlib.Core.Path.{◌∙◌}
 use Rattle.monitor.proofs.Layouts.{word_in}
 use Rattle.monitor.proofs.layout.first_of.Goals as goal
 
 pub returns : goal.returns
-returns c = c.number.ensures ∙ word_in c.args.layout.now 288 32 c.args.monitor c.requires
+returns c = word_in c.args.layout.now 288 32 c.args.monitor c.requires

@@ -1,25 +1,12 @@
 -- The answers to the goals of `monitor::layout::place_bytes`.
-use Prim.Native.Nat.{ℕ, ◌+◌}
-use lib.ListN.{set}
-use lib.Seq.{sets}
-use mathlib.Core.Path.{◌≡◌, ap}
+use Prim.Native.Nat.{◌+◌}
 use native.Mathlib.Omega.{arith}
-use Rattle.monitor.proofs.Layouts.{bytes-more, own-bytes}
-use Rattle.monitor.proofs.Stored.{put-more, put-end}
+use Rattle.monitor.proofs.Layouts.{own-bytes}
+use Rattle.monitor.proofs.Stored.{put-end}
 use Rattle.monitor.proofs.layout.place_bytes.Goals as goal
-
-pub loop-i-init : goal.loop-i-init
-loop-i-init c = (omega arith, let a = c.args in let e : a.at ≡ a.at + 0 = omega arith in ap (λ (n : ℕ). sets a.layout.now n a.bytes.now) e, λ j h. absurd (omega (arith, h)))
-
-pub loop-i-preserved : goal.loop-i-preserved
-loop-i-preserved c =
-    let l = c.loop-i in
-    let a = c.args in
-    let w = c.byte_word.ensures in
-    (omega arith, put-more a.layout.now l.layout _ a.bytes.now a.at (a.at + l.i) _ l.i (omega arith) l.invariant.1 (ap (set l.layout (a.at + l.i)) w.0) (omega arith), bytes-more a.bytes.now l.i _ l.invariant.2 w.0 w.1)
 
 pub returns : goal.returns
 returns c =
     let l = c.loop-i in
     let a = c.args in
-    (put-end a.layout.now l.layout a.bytes.now a.at (a.at + l.i) l.i (omega arith) l.invariant.1, own-bytes a.bytes.now (λ j h. l.invariant.2 j (omega (arith, h))))
+    (put-end a.layout.now l.layout a.bytes.now a.at (a.at + l.i) l.i (omega arith) l.invariant.0, own-bytes a.bytes.now (λ j h. l.invariant.1 j (omega (arith, h))))

@@ -1,15 +1,7 @@
--- `monitor::marks::quiet` meets its contract.
--- Assumes nothing.
-use borrow.Author.Tests.{eqb-true}
-use native.Mathlib.Omega.{arith}
-use Rattle.meaning.proofs.ListLaws.{clash}
-use Rattle.monitor.proofs.Marked.{eight-zero}
+-- The answers to the goals of `monitor::marks::quiet`.
+use borrow.Author.Count.{below_more}
+use Rattle.monitor.proofs.Marked.{or-zero}
 use Rattle.monitor.proofs.marks.quiet.Goals as goal
 
-pub returns-then-to-from : goal.returns-then-to-from
-returns-then-to-from c e = clash (cc e)
-
-pub returns : goal.returns
-returns c e =
-    let a = c.args in
-    (omega arith, eight-zero a.marks.now a.from (eqb-true _ 0 e))
+pub loop-step-preserved : goal.loop-step-preserved
+loop-step-preserved c z = let (was, here) = or-zero _ _ z in below_more _ _ (c.loop-step.invariant was) here

@@ -14,4 +14,4 @@ bounds-firsts-next_of c = let e = c.next_of.ensures in omega arith
 pub returns : goal.returns
 returns c =
     let a = c.args in
-    (ends_by a.monitors a.letters a.monitor _ _ a.firsts.now _ c.next_of.ensures c.wide.ensures c.end_by.ensures.0, c.end_by.ensures.1)
+    (ends_by a.monitors a.letters a.monitor _ _ a.firsts.now _ c.next_of.ensures c.from.ensures c.end_by.ensures.0, c.end_by.ensures.1)

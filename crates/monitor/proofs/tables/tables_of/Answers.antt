@@ -11,7 +11,7 @@ use Rattle.monitor.proofs.tables.tables_of.Goals as goal
 
 pub returns : goal.returns
 returns c =
-    let v = c.args.watch in
+    let v = c.args.watch.now in
     let t = c.threads_of-threads in
     let l = c.place-4.ensures
     ∙ ap (λ (l : List ℕ). sets l 768 t.result)

@@ -9,6 +9,3 @@ use Rattle.monitor.proofs.tally.touch_starts.Given as goal
 
 abbrev pub invariant-loop-monitor : goal.invariant-loop-monitor
 invariant-loop-monitor l = (T P L : List ℕ) → Toward (touch_starts (counts_by T P l.costs L) (own_in l.layout) l.marks l.monitors 0) l.count (touch_starts (counts_by T P l.costs L) (own_in l.layout) l.marks (l.monitors - l.monitor) l.monitor)
-
-abbrev pub decreases-loop-monitor : goal.decreases-loop-monitor
-decreases-loop-monitor l = l.monitors - l.monitor

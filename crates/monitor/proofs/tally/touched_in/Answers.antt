@@ -21,5 +21,5 @@ returns c =
     let a = c.args in
     let F = a.layout.now in
     both-touched (counts_by (get_or a.tables.now 0 []) a.places.now a.costs.now (places_in F)) (own_in F) a.marks.now (get_or F 576 0) (get_or F 577 0) _ _ _ _ _
-    (c.least-monitors.ensures ∙ ap (λ (n : ℕ). min n 32) c.monitors_in.ensures) (c.least-letters.ensures ∙ ap (λ (n : ℕ). min n 256) c.letters_in.ensures) (c.touch_starts.ensures _ _ _)
+    (c.min-monitors.ensures ∙ ap (λ (n : ℕ). min n 32) c.monitors_in.ensures) (c.min-letters.ensures ∙ ap (λ (n : ℕ). min n 256) c.letters_in.ensures) (c.touch_starts.ensures _ _ _)
     c.touch_marked.ensures c.more.ensures

@@ -12,7 +12,7 @@ pub bounds-words-node : goal.bounds-words-node
 bounds-words-node t c = letters-inside _ _ _ c.requires.0
 
 pub mask_of-requires : goal.mask_of-requires
-mask_of-requires t c = (one-letter _ c.args.kept.now _ _ _ c.part0-k.ensures (sym c.is_letter.ensures ∙ c.if-is_letter.true) c.requires.0, c.requires.1, c.requires.2)
+mask_of-requires t c = (one-letter _ c.args.limits.now _ _ _ c.part0-k.ensures (sym c.is_letter.ensures ∙ c.if-is_letter.true) c.requires.0, c.requires.1)
 
 pub bounds-counted-letter : goal.bounds-counted-letter
 bounds-counted-letter t c = letters-room _ _ _ c.requires.0
@@ -24,13 +24,13 @@ pub returns-then-is_letter : goal.returns-then-is_letter
 returns-then-is_letter t c = letter-counts _ _ _ _ _ c.part0-k.ensures (sym c.is_letter.ensures ∙ c.if-is_letter.true) _ c.mask_of.ensures _
 
 pub count_letters-next-requires : goal.count_letters-next-requires
-count_letters-next-requires t c = let (l, x) = first-letters _ c.args.kept.now _ _ _ _ c.part0-k.ensures c.part1.ensures (sym c.is_letter.ensures ∙ c.if-is_letter.false) c.requires.0 in (omega (arith, c.decreases), (x, c.requires.1, c.requires.2))
+count_letters-next-requires t c = let (l, x) = first-letters _ c.args.limits.now _ _ _ _ c.part0-k.ensures c.part1.ensures (sym c.is_letter.ensures ∙ c.if-is_letter.false) c.requires.0 in (omega (arith, c.decreases), (x, c.requires.1))
 
-pub returns-then-k-eq-STAR : goal.returns-then-k-eq-STAR
-returns-then-k-eq-STAR t c = star-counts _ _ _ _ _ _ c.part0-k.ensures c.part1.ensures c.if-k-eq-STAR.true _ _ _ c.count_letters-next.ensures
+pub returns-then-k-number : goal.returns-then-k-number
+returns-then-k-number t c = star-counts _ _ _ _ _ _ c.part0-k.ensures c.part1.ensures (c.if-k-number.true ∙ c.number.ensures) _ _ _ c.count_letters-next.ensures
 
 pub count_letters-requires : goal.count_letters-requires
-count_letters-requires t c = let (l, x) = second-letters _ _ _ _ _ _ _ c.part0-k.ensures c.part1.ensures c.part2.ensures (sym c.is_letter.ensures ∙ c.if-is_letter.false) c.if-k-eq-STAR.false _ _ _ c.count_letters-next.ensures c.requires.0 in (omega (arith, c.decreases), (x, c.requires.1, c.requires.2))
+count_letters-requires t c = let (l, x) = second-letters _ _ _ _ _ _ _ c.part0-k.ensures c.part1.ensures c.part2.ensures (sym c.is_letter.ensures ∙ c.if-is_letter.false) (λ z. c.if-k-number.false (z ∙ sym c.number.ensures)) _ _ _ c.count_letters-next.ensures c.requires.0 in (omega (arith, c.decreases), (x, c.requires.1))
 
 pub returns : goal.returns
-returns t c = two-counts _ _ _ _ _ _ _ c.part0-k.ensures c.part1.ensures c.part2.ensures (sym c.is_letter.ensures ∙ c.if-is_letter.false) c.if-k-eq-STAR.false _ _ _ c.count_letters-next.ensures _ _ c.count_letters.ensures
+returns t c = two-counts _ _ _ _ _ _ _ c.part0-k.ensures c.part1.ensures c.part2.ensures (sym c.is_letter.ensures ∙ c.if-is_letter.false) (λ z. c.if-k-number.false (z ∙ sym c.number.ensures)) _ _ _ c.count_letters-next.ensures _ _ c.count_letters.ensures

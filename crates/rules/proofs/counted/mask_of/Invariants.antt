@@ -1,11 +1,7 @@
--- `rules::counted::mask_of` meets its contract.
+-- `rules::counted::mask_of` meets its contract. The invariant: the mask is that of the limits behind those that are still to come.
 -- Assumes nothing.
-use Prim.Native.Nat.{◌≤◌}
-use Rattle.rules.proofs.Counting.{MaskFrom}
+use Rattle.rules.proofs.Counting.{Masked}
 use Rattle.rules.proofs.counted.mask_of.Given as goal
 
-abbrev pub invariant-loop-i : goal.invariant-loop-i
-invariant-loop-i l = (l.i ≤ l.limits) × MaskFrom l.words l.kept l.node l.limits l.i l.mask
-
-abbrev pub decreases-loop-i : goal.decreases-loop-i
-decreases-loop-i l = l.i
+abbrev pub invariant-loop-limit : goal.invariant-loop-limit
+invariant-loop-limit l = Masked l.words l.limits l.node l.limit-iterator.iter.rest.now l.mask

@@ -10,8 +10,8 @@ decreases-expression l = 2 * l.levels + 1
 abbrev pub decreases-operand : goal.decreases-operand
 decreases-operand l = 2 * l.levels
 
-abbrev pub invariant-expression-loop-level : goal.invariant-expression-loop-level
-invariant-expression-loop-level l = Loop l.text l.initial.words l.at l.free l.last l.levels l.words l.level l.pos l.used
+abbrev pub invariant-expression-loop-p : goal.invariant-expression-loop-p
+invariant-expression-loop-p l = Loop l.text l.initial.words l.at l.free l.last l.levels l.words l.level l.pos l.used
 
-abbrev pub decreases-expression-loop-level : goal.decreases-expression-loop-level
-decreases-expression-loop-level l = length l.text - l.pos
+abbrev pub decreases-expression-loop-p : goal.decreases-expression-loop-p
+decreases-expression-loop-p l = length l.text - l.pos

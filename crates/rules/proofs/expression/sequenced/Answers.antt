@@ -2,7 +2,6 @@
 -- Assumes nothing.
 use native.Mathlib.Omega.{arith}
 use mathlib.Core.Path.{refl, ◌∙◌}
-use mathlib.Core.Logic.{inl}
 use Rattle.rules.proofs.Operating.{join-given, joined-more}
 use Rattle.rules.proofs.expression.sequenced.Goals as goal
 
@@ -10,7 +9,7 @@ pub join-requires : goal.join-requires
 join-requires c =
     let j = c.piped-m.ensures in
     let (level, part) = join-given _ _ _ _ _ _ _ _ _ j c.requires.2 c.requires.3 in
-    (omega (arith, j.few, j.extends.long), omega (arith, j.extends.long), inl refl, (level.0.seqs, level.1.seqs), part)
+    (omega (arith, j.few, j.extends.long), omega (arith, j.extends.long), (level.0.seqs, level.1.seqs), part)
 
 pub shape_of-words : goal.shape_of-words
 shape_of-words c = c.join.ensures.extends.long ∙ c.piped-m.ensures.extends.long

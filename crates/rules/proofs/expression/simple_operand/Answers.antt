@@ -1,39 +1,68 @@
 -- `rules::expression::simple_operand` meets its contract.
 -- Assumes nothing.
+use borrow.Author.Rules.{rules}
 use native.Mathlib.Omega.{arith}
+use mathlib.Core.Path.{◌≡◌, refl}
+use Rattle.lexer.specs.declared.Kind.TheVariants as kind
+use Rattle.lexer.specs.declared.Sign.TheVariants as signs
+use Rattle.std.specs.Prelude.{Err}
+use Rattle.rules.specs.Expressions.{told_parsed}
+use Rattle.rules.proofs.Misreads.{exit, some, ok-past}
 use Rattle.rules.proofs.Stepping.{well, past-at, past-place, inside-text}
-use Rattle.rules.proofs.LetterSteps.{named-declared, first-given, begun, letter-read, not_same, simple-fails, found-low, production-at, simple-production, name-same}
+use Rattle.rules.proofs.Picking.{finds-cell, found-cell}
+use Rattle.rules.proofs.LetterSteps.{ends-from, named-declared, first-given, begun, letter-read, not_same, simple-fails, found-low, production-at, simple-production, name-same}
 use Rattle.rules.proofs.expression.simple_operand.Goals as goal
 
-pub negated-l-requires : goal.negated-l-requires
-negated-l-requires c = let p = (past-at _ _ _ c.requires.1.1 (omega arith)) in first-given _ _ _ _ _ _ c.requires.1.1 c.requires.0 c.requires.2 _ c.no_literals.ensures.0 c.no_literals.ensures.1 _ (omega arith) (inside-text _ _ _ c.requires.1.1).1
+pub negated-requires : goal.negated-requires
+negated-requires c =
+    let q : c.args.t.kind ≡ kind.Sign signs.Bang = search rules in
+    let p = past-at _ _ _ c.requires.1.1 q tt in first-given _ _ _ _ _ _ c.requires.1.1 c.requires.0 c.requires.2 _ c.no_literals.ensures.0 c.no_literals.ensures.1 _ (omega arith) (inside-text _ _ _ c.requires.1.1).1
 
-pub letter_from-requires : goal.letter_from-requires
-letter_from-requires c = begun _ _ _ _ _ _ c.requires.1.1 c.requires.0 c.requires.2 _ c.no_literals.ensures.0 c.no_literals.ensures.1 _ _ _ (let p = (past-at _ _ _ c.requires.1.1 (omega arith)) in omega arith) (past-at _ _ _ c.requires.1.1 (omega arith)) _ _ c.negated-l.ensures (λ z. (well c.negated-l.ensures.outcome z).spent.few) (not_same _ _ _ _ _ _ c.requires.1.1 c.requires.0 c.requires.2 c.if-t-eq-BANG.true)
+pub letter_rest-requires : goal.letter_rest-requires
+letter_rest-requires c =
+    let q : c.args.t.kind ≡ kind.Sign signs.Bang = search rules in
+    begun _ _ _ _ _ _ c.requires.1.1 c.requires.0 c.requires.2 _ c.no_literals.ensures.0 c.no_literals.ensures.1 _ _ _ (let p = past-at _ _ _ c.requires.1.1 q tt in omega arith) (past-at _ _ _ c.requires.1.1 q tt) _ _ c.in_ok-l.ensures (λ z. (well c.in_ok-l.ensures.outcome z).spent.few) (not_same _ _ _ _ _ _ c.requires.1.1 c.requires.0 c.requires.2 q) refl
 
-pub returns-then-t-eq-BANG : goal.returns-then-t-eq-BANG
-returns-then-t-eq-BANG c = letter-read _ _ _ _ _ _ c.requires.1.1 c.requires.0 c.requires.2 _ c.no_literals.ensures.0 c.no_literals.ensures.1 _ _ _ (let p = (past-at _ _ _ c.requires.1.1 (omega arith)) in omega arith) (past-at _ _ _ c.requires.1.1 (omega arith)) _ _ c.negated-l.ensures (λ z. (well c.negated-l.ensures.outcome z).spent.few) (not_same _ _ _ _ _ _ c.requires.1.1 c.requires.0 c.requires.2 c.if-t-eq-BANG.true) _ _ c.letter_from.ensures.0 c.letter_from.ensures.1 c.letter_from.ensures.2
+pub returns-in_err-l : goal.returns-in_err-l
+returns-in_err-l c =
+    let q : c.args.t.kind ≡ kind.Sign signs.Bang = search rules in
+    rw (exit _ c.from_residual.ensures.1) ((letter-read _ _ _ _ _ _ c.requires.1.1 c.requires.0 c.requires.2 _ c.no_literals.ensures.0 c.no_literals.ensures.1 _ _ _ (let p = past-at _ _ _ c.requires.1.1 q tt in omega arith) (past-at _ _ _ c.requires.1.1 q tt) _ _ c.in_err-l.ensures (λ z. (well c.in_err-l.ensures.outcome z).spent.few) (not_same _ _ _ _ _ _ c.requires.1.1 c.requires.0 c.requires.2 q) (told_parsed c.args.free (Err _)) _ refl (λ n. (refl, refl)) (λ z. absurd (some _ z))).0, tt)
 
-pub returns-then-t-ne-NAME : goal.returns-then-t-ne-NAME
-returns-then-t-ne-NAME c = simple-fails _ _ _ _ _ _ c.requires.1.1 c.requires.0 c.requires.2 c.if-t-eq-BANG.false c.if-t-ne-NAME.true _
+pub returns-then-eq : goal.returns-then-eq
+returns-then-eq c =
+    let q : c.args.t.kind ≡ kind.Sign signs.Bang = search rules in
+    let e = ends-from _ _ _ _ _ _ _ _ _ _ c.letter_rest.ensures in
+    let r = letter-read _ _ _ _ _ _ c.requires.1.1 c.requires.0 c.requires.2 _ c.no_literals.ensures.0 c.no_literals.ensures.1 _ _ _ (let p = past-at _ _ _ c.requires.1.1 q tt in omega arith) (past-at _ _ _ c.requires.1.1 q tt) _ _ c.in_ok-l.ensures (λ z. (well c.in_ok-l.ensures.outcome z).spent.few) (not_same _ _ _ _ _ _ c.requires.1.1 c.requires.0 c.requires.2 q) (told_parsed c.args.free c.letter_rest.result) _ e.long (λ n. absurd (n refl)) (λ z. e) in
+    (r.0, ok-past _ _ _ r.1)
 
-pub find-cell-requires : goal.find-cell-requires
-find-cell-requires c = ((inside-text _ _ _ c.requires.1.1).0, (inside-text _ _ _ c.requires.1.1).1, named-declared _ _ _ _ _ _ c.requires.1.1 c.requires.0 c.requires.2)
+pub returns-then-ne : goal.returns-then-ne
+returns-then-ne c = rw (c.misplaced.ensures.0, c.misplaced.ensures.1) (((simple-fails _ _ _ _ _ _ c.requires.1.1 c.requires.0 c.requires.2 (search rules) (search rules) _).0, tt))
 
-pub is_production-requires : goal.is_production-requires
-is_production-requires c = found-low _ _ _ _ _ _ c.requires.1.1 c.requires.0 c.requires.2 c.if-t-eq-BANG.false c.if-t-ne-NAME.false _ c.find-cell.ensures
+pub find-found-requires : goal.find-found-requires
+find-found-requires c = ((inside-text _ _ _ c.requires.1.1).0, (inside-text _ _ _ c.requires.1.1).1, named-declared _ _ _ _ _ _ c.requires.1.1 c.requires.0 c.requires.2)
 
-pub production_part-part-requires : goal.production_part-part-requires
-production_part-part-requires c = production-at _ _ _ _ _ _ c.requires.1.1 c.requires.0 c.requires.2 c.if-t-eq-BANG.false c.if-t-ne-NAME.false _ c.find-cell.ensures _ c.is_production.ensures c.if-is_production.true
+pub production_found-requires : goal.production_found-requires
+production_found-requires c = (
+  found-low _ _ _ _ _ _ c.requires.1.1 c.requires.0 c.requires.2 (search rules) (search rules) _ (finds-cell _ _ _ _ _ c.find-found.ensures),
+  production-at _ _ _ _ _ _ c.requires.1.1 c.requires.0 c.requires.2 (search rules) (search rules) _ (finds-cell _ _ _ _ _ c.find-found.ensures) _ refl,
+  found-cell _ _ _ _ _ c.find-found.ensures,
+)
 
-pub returns-then-is_production : goal.returns-then-is_production
-returns-then-is_production c = simple-production _ _ _ _ _ _ c.requires.1.1 c.requires.0 c.requires.2 c.if-t-eq-BANG.false c.if-t-ne-NAME.false _ c.find-cell.ensures _ c.is_production.ensures c.if-is_production.true _ c.production_part-part.ensures
+pub returns-in-Some : goal.returns-in-Some
+returns-in-Some c = let r = simple-production _ _ _ _ _ _ c.requires.1.1 c.requires.0 c.requires.2 (search rules) (search rules) _ (finds-cell _ _ _ _ _ c.find-found.ensures) _ refl c.in-Some.ensures.0 _ c.in-Some.ensures.1 in (r.0, r.1 refl)
 
-pub literal_name-l-requires : goal.literal_name-l-requires
-literal_name-l-requires c = (first-given _ _ _ _ _ _ c.requires.1.1 c.requires.0 c.requires.2 _ c.no_literals-2.ensures.0 c.no_literals-2.ensures.1 _ (omega arith) (let p = inside-text _ _ _ c.requires.1.1 in omega arith), c.requires.1, c.if-t-ne-NAME.false, c.find-cell.ensures)
+pub literal_name-requires : goal.literal_name-requires
+literal_name-requires c = (first-given _ _ _ _ _ _ c.requires.1.1 c.requires.0 c.requires.2 _ c.no_literals-in-None.ensures.0 c.no_literals-in-None.ensures.1 _ (omega arith) (let p = inside-text _ _ _ c.requires.1.1 in omega arith), c.requires.1, (search rules), c.find-found.ensures)
 
-pub letter_from-requires-2 : goal.letter_from-requires-2
-letter_from-requires-2 c = begun _ _ _ _ _ _ c.requires.1.1 c.requires.0 c.requires.2 _ c.no_literals-2.ensures.0 c.no_literals-2.ensures.1 _ _ _ (omega arith) (past-place _ _ _ c.requires.1.1 c.if-t-ne-NAME.false) _ _ c.literal_name-l.ensures.0 (c.literal_name-l.ensures.1 c.no_literals-2.ensures.1 c.no_literals-2.ensures.2) (name-same _ _ _ _ _ _ c.requires.1.1 c.requires.0 c.requires.2 c.if-t-eq-BANG.false c.if-t-ne-NAME.false _ c.find-cell.ensures _ c.is_production.ensures c.if-is_production.false)
+pub letter_rest-requires-in-None : goal.letter_rest-requires-in-None
+letter_rest-requires-in-None c = begun _ _ _ _ _ _ c.requires.1.1 c.requires.0 c.requires.2 _ c.no_literals-in-None.ensures.0 c.no_literals-in-None.ensures.1 _ _ _ (omega arith) (past-place _ _ _ c.requires.1.1 (search rules)) _ _ c.in_ok-l-in-None.ensures.0 (c.in_ok-l-in-None.ensures.1 c.no_literals-in-None.ensures.1 c.no_literals-in-None.ensures.2) (name-same _ _ _ _ _ _ c.requires.1.1 c.requires.0 c.requires.2 (search rules) (search rules) _ (finds-cell _ _ _ _ _ c.find-found.ensures) _ refl c.in-None.ensures) refl
 
-pub returns : goal.returns
-returns c = letter-read _ _ _ _ _ _ c.requires.1.1 c.requires.0 c.requires.2 _ c.no_literals-2.ensures.0 c.no_literals-2.ensures.1 _ _ _ (omega arith) (past-place _ _ _ c.requires.1.1 c.if-t-ne-NAME.false) _ _ c.literal_name-l.ensures.0 (c.literal_name-l.ensures.1 c.no_literals-2.ensures.1 c.no_literals-2.ensures.2) (name-same _ _ _ _ _ _ c.requires.1.1 c.requires.0 c.requires.2 c.if-t-eq-BANG.false c.if-t-ne-NAME.false _ c.find-cell.ensures _ c.is_production.ensures c.if-is_production.false) _ _ c.letter_from-2.ensures.0 c.letter_from-2.ensures.1 c.letter_from-2.ensures.2
+pub returns-in_err-l-in-None : goal.returns-in_err-l-in-None
+returns-in_err-l-in-None c =
+    rw (exit _ c.from_residual-in_err-l-in-None.ensures.1) ((letter-read _ _ _ _ _ _ c.requires.1.1 c.requires.0 c.requires.2 _ c.no_literals-in-None.ensures.0 c.no_literals-in-None.ensures.1 _ _ _ (omega arith) (past-place _ _ _ c.requires.1.1 (search rules)) _ _ c.in_err-l-in-None.ensures.0 (c.in_err-l-in-None.ensures.1 c.no_literals-in-None.ensures.1 c.no_literals-in-None.ensures.2) (name-same _ _ _ _ _ _ c.requires.1.1 c.requires.0 c.requires.2 (search rules) (search rules) _ (finds-cell _ _ _ _ _ c.find-found.ensures) _ refl c.in-None.ensures) (told_parsed c.args.free (Err _)) _ refl (λ n. (refl, refl)) (λ z. absurd (some _ z))).0, tt)
+
+pub returns-in_ok-l-in-None : goal.returns-in_ok-l-in-None
+returns-in_ok-l-in-None c =
+    let e = ends-from _ _ _ _ _ _ _ _ _ _ c.letter_rest-in-None.ensures in
+    let r = letter-read _ _ _ _ _ _ c.requires.1.1 c.requires.0 c.requires.2 _ c.no_literals-in-None.ensures.0 c.no_literals-in-None.ensures.1 _ _ _ (omega arith) (past-place _ _ _ c.requires.1.1 (search rules)) _ _ c.in_ok-l-in-None.ensures.0 (c.in_ok-l-in-None.ensures.1 c.no_literals-in-None.ensures.1 c.no_literals-in-None.ensures.2) (name-same _ _ _ _ _ _ c.requires.1.1 c.requires.0 c.requires.2 (search rules) (search rules) _ (finds-cell _ _ _ _ _ c.find-found.ensures) _ refl c.in-None.ensures) (told_parsed c.args.free c.letter_rest-in-None.result) _ e.long (λ n. absurd (n refl)) (λ z. e) in
+    (r.0, ok-past _ _ _ r.1)

@@ -2,7 +2,6 @@
 -- Assumes nothing.
 use native.Mathlib.Omega.{arith}
 use mathlib.Core.Path.{refl, ◌∙◌}
-use mathlib.Core.Logic.{inl, inr}
 use Rattle.rules.proofs.Operating.{join-given, joined-more}
 use Rattle.rules.proofs.expression.whole.Goals as goal
 
@@ -10,7 +9,7 @@ pub join-requires : goal.join-requires
 join-requires c =
     let j = c.sequenced-m.ensures in
     let (level, part) = join-given _ _ _ _ _ _ _ _ _ j c.requires.2 c.requires.3 in
-    (omega (arith, j.few, j.extends.long), omega (arith, j.extends.long), inr (inl refl), (level.0.alts, level.1.alts), part)
+    (omega (arith, j.few, j.extends.long), omega (arith, j.extends.long), (level.0.alts, level.1.alts), part)
 
 pub shape_of-words : goal.shape_of-words
 shape_of-words c = c.join.ensures.extends.long ∙ c.sequenced-m.ensures.extends.long

@@ -21,10 +21,10 @@ pub bounds-words-at-in-loop-at : goal.bounds-words-at-in-loop-at
 bounds-words-at-in-loop-at c = below-inside all _ _ _ c.loop-at.invariant c.requires
 
 pub loop-at-smaller : goal.loop-at-smaller
-loop-at-smaller c = let l = below-falls all _ _ _ c.loop-at.invariant (sym c.part0.ensures ∙ c.loop-at-test.true) c.requires in omega (arith, c.part1-at.ensures)
+loop-at-smaller c = let l = below-falls all _ _ _ c.loop-at.invariant (sym c.part0.ensures ∙ c.loop-at-test.true ∙ c.number.ensures) c.requires in omega (arith, c.part1-at.ensures)
 
 pub loop-at-preserved : goal.loop-at-preserved
-loop-at-preserved c = rw c.part1-at.ensures (below_next all _ _ _ c.loop-at.invariant (sym c.part0.ensures ∙ c.loop-at-test.true) (λ ps. refl))
+loop-at-preserved c = rw c.part1-at.ensures (below_next all _ _ _ c.loop-at.invariant (sym c.part0.ensures ∙ c.loop-at-test.true ∙ c.number.ensures) (λ ps. refl))
 
 pub returns : goal.returns
-returns c = below_end all _ _ _ c.loop-at.invariant (λ z. c.loop-at-test.false (c.part0.ensures ∙ z))
+returns c = below_end all _ _ _ c.loop-at.invariant (λ z. c.loop-at-test.false (c.part0.ensures ∙ z ∙ sym c.number.ensures))

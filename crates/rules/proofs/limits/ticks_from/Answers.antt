@@ -1,19 +1,22 @@
 -- `rules::limits::ticks_from` meets its contract.
 -- Assumes nothing.
+use mathlib.Core.Path.{refl}
+use Rattle.rules.proofs.Misreads.{exit, some}
 use Rattle.rules.proofs.Limiting.{ticks-no-word, ticks-no-number, ticks-small, ticks-large, ticks-read}
 use Rattle.rules.proofs.limits.ticks_from.Goals as goal
+use Rattle.rules.proofs.limits.ticks_from.Goals.{then-value-least-via-then-value-least, then-value-least-via-else-value-least+then-most-value}
 
-pub returns-then-word-ne0 : goal.returns-then-word-ne0
-returns-then-word-ne0 c = λ w q. ticks-no-word _ _ _ _ w (c.keyword-word.ensures w q) _ _ c.if-word-ne0.true _
+pub returns-in_err-word : goal.returns-in_err-word
+returns-in_err-word c = rw (exit _ c.from_residual.ensures.1) (ticks-no-word _ _ _ _ _ c.in_err-word.ensures _ _ (some _) _)
 
-pub returns-then-t-ne-NUMBER : goal.returns-then-t-ne-NUMBER
-returns-then-t-ne-NUMBER c = λ w q. ticks-no-number _ _ _ _ w (c.keyword-word.ensures w q) _ _ c.if-word-ne0.false _ c.see-t.ensures c.if-t-ne-NUMBER.true _
+pub returns-in_default : goal.returns-in_default
+returns-in_default c = rw (c.misplaced.ensures.0, c.misplaced.ensures.1) (ticks-no-number _ _ _ _ _ c.in_ok-word.ensures _ _ refl _ c.see-t.ensures c.in_default.not-Number _)
 
-pub returns-then-t-least : goal.returns-then-t-least
-returns-then-t-least c = λ w q. ticks-small _ _ _ _ w (c.keyword-word.ensures w q) _ _ c.if-word-ne0.false _ c.see-t.ensures c.if-t-ne-NUMBER.false c.if-t-least.true _
-
-pub returns-then-most-t : goal.returns-then-most-t
-returns-then-most-t c = λ w q. ticks-large _ _ _ _ w (c.keyword-word.ensures w q) _ _ c.if-word-ne0.false _ c.see-t.ensures c.if-t-ne-NUMBER.false c.if-most-t.true _
+pub returns-then-value-least : goal.returns-then-value-least
+returns-then-value-least c = rw (c.refused.ensures.0, c.refused.ensures.1) (elim c.then-value-least.branch [
+  | then-value-least-via-then-value-least x ↦ ticks-small _ _ _ _ _ c.in_ok-word.ensures _ _ refl _ c.see-t.ensures _ c.in-Number.is x.if-value-least.true _
+  | then-value-least-via-else-value-least+then-most-value x ↦ ticks-large _ _ _ _ _ c.in_ok-word.ensures _ _ refl _ c.see-t.ensures _ c.in-Number.is x.if-most-value.true _
+])
 
 pub returns : goal.returns
-returns c = λ w q. ticks-read _ _ _ _ w (c.keyword-word.ensures w q) _ _ c.if-word-ne0.false _ c.see-t.ensures c.if-t-ne-NUMBER.false c.if-t-least.false c.if-most-t.false
+returns c = ticks-read _ _ _ _ _ c.in_ok-word.ensures _ _ refl _ c.see-t.ensures _ c.in-Number.is c.if-value-least.false c.if-most-value.false

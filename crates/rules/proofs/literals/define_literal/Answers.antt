@@ -7,7 +7,7 @@ use Rattle.rules.proofs.Stepping.{past-place, inside-text}
 use Rattle.rules.proofs.literals.define_literal.Goals as goal
 
 pub returns-then-most-q : goal.returns-then-most-q
-returns-then-most-q c = (λ ds d. define-crowded _ _ _ _ _ _ c.requires.2.1 c.requires.3 _ _ _ c.requires.0 _ c.part1-tests.ensures ds d c.if-most-q.true, λ e h z. absurd (omega arith))
+returns-then-most-q c = rw (c.refused.ensures.0, c.refused.ensures.1) ((λ ds d. define-crowded _ _ _ _ _ _ c.requires.2.1 c.requires.3 _ _ _ c.requires.0 _ c.part1-tests.ensures ds d c.if-most-q.true, λ e h z. absurd (omega arith)))
 
 pub with_links-l-requires : goal.with_links-l-requires
 with_links-l-requires c =

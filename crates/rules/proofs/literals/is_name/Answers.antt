@@ -1,12 +1,14 @@
 -- `rules::literals::is_name` meets its contract.
 -- Assumes nothing.
-use mathlib.Core.Path.{◌∙◌}
-use borrow.Author.Tests.{eq-eqb, ne_eqb}
-use Rattle.rules.proofs.Stepping.{inside-text}
+use borrow.Author.Rules.{rules}
+use mathlib.Core.Path.{◌≡◌, ◌∙◌, ap}
+use Rattle.lexer.specs.declared.Kind.TheVariants as kind
+use Rattle.rules.specs.Seen.{is_name}
+use Rattle.rules.proofs.Stepping.{inside-text, no-name-false}
 use Rattle.rules.proofs.literals.is_name.Goals as goal
 
-pub returns-then-t-ne-NAME : goal.returns-then-t-ne-NAME
-returns-then-t-ne-NAME c = rw (ne_eqb c.args.t.kind 18 c.if-t-ne-NAME.true)
+pub returns-then-ne : goal.returns-then-ne
+returns-then-ne c = rw (no-name-false c.args.t.kind (search rules))
 
 pub slice_bounds-equal-count : goal.slice_bounds-equal-count
 slice_bounds-equal-count c = (inside-text _ _ _ c.requires.0.1).0
@@ -18,4 +20,4 @@ pub slice_bounds-equal-end : goal.slice_bounds-equal-end
 slice_bounds-equal-end c = (inside-text _ _ _ c.requires.0.1).1
 
 pub returns : goal.returns
-returns c = c.equal.ensures ∙ rw (eq-eqb c.args.t.kind 18 c.if-t-ne-NAME.false)
+returns c = let q : c.args.t.kind ≡ kind.Name = search rules in c.equal.ensures ∙ rw (ap is_name q)

@@ -6,7 +6,7 @@ use Rattle.rules.proofs.LiteralSteps.{given-on, test-inside, test-crowded, test_
 use Rattle.rules.proofs.literals.store_name.Goals as goal
 
 pub returns-then-most-q : goal.returns-then-most-q
-returns-then-most-q c = (λ n w s. test-crowded _ _ _ _ _ _ c.requires.2.1 c.requires.3 _ _ 0 c.requires.0 c.if-most-q.true n w, λ e h z. absurd (omega arith))
+returns-then-most-q c = rw (c.refused.ensures.0, c.refused.ensures.1) ((λ n w s. test-crowded _ _ _ _ _ _ c.requires.2.1 c.requires.3 _ _ 0 c.requires.0 c.if-most-q.true n w, λ e h z. absurd (omega arith)))
 
 pub store_literal-requires : goal.store_literal-requires
 store_literal-requires c =

@@ -17,7 +17,7 @@ pub slice_bounds-equal-end : goal.slice_bounds-equal-end
 slice_bounds-equal-end c = let i = (inside _ _ _ _ _ c.loop-cell.invariant c.loop-cell-test.true c.requires.2).1 in omega (arith, c.part2-from.ensures, c.part3.ensures)
 
 pub returns-then-equal : goal.returns-then-equal
-returns-then-equal c = looked-found _ _ _ _ _ c.loop-cell.invariant c.loop-cell-test.true _ _ c.part2-from.ensures c.part3.ensures _ c.equal.ensures c.if-equal.true
+returns-then-equal c = (looked-found _ _ _ _ _ c.loop-cell.invariant c.loop-cell-test.true _ _ c.part2-from.ensures c.part3.ensures _ c.equal.ensures c.if-equal.true, c.loop-cell-test.true)
 
 pub loop-cell-smaller : goal.loop-cell-smaller
 loop-cell-smaller c = rw c.part1-cell.ensures (inside _ _ _ _ _ c.loop-cell.invariant c.loop-cell-test.true c.requires.2).2

@@ -7,15 +7,6 @@ use Rattle.rules.proofs.opening.first_long.Goals as goal
 pub loop-i-init : goal.loop-i-init
 loop-i-init c = (search rules, summed-start _ _ _)
 
-pub overflow_cast-cell : goal.overflow_cast-cell
-overflow_cast-cell c = let l = next-cell _ _ _ _ _ c.loop-i.invariant.1 c.requires c.loop-i-test.true in search rules
-
-pub overflow_add-cell : goal.overflow_add-cell
-overflow_add-cell c = let l = next-cell _ _ _ _ _ c.loop-i.invariant.1 c.requires c.loop-i-test.true in search rules
-
-pub offset_bounds-words-cell : goal.offset_bounds-words-cell
-offset_bounds-words-cell c = let l = next-cell _ _ _ _ _ c.loop-i.invariant.1 c.requires c.loop-i-test.true in search rules
-
 pub bounds-words-cell : goal.bounds-words-cell
 bounds-words-cell c = next-cell _ _ _ _ _ c.loop-i.invariant.1 c.requires c.loop-i-test.true
 

@@ -1,32 +1,28 @@
 -- The answers to the goals of `rules::opening::lay_all`.
 use native.Mathlib.Omega.{arith}
+use mathlib.Core.Path.{◌≡◌, refl}
+use Rattle.std.proofs.lemmas.Result.{err_from_is_err_and}
 use borrow.Author.Rules.{rules}
-use mathlib.Core.Path.{refl}
-use lib.ListN.{length-set}
-use Rattle.rules.proofs.OneMonitor.{cell-inside}
-use Rattle.rules.proofs.AllMonitors.{going_start, small, going_end, some_next, going-refused, going_next}
+use Rattle.rules.specs.declared.Refused.TheVariants.{AtLetter}
+use Rattle.rules.proofs.AllMonitors.{was-laid, was-fault, going_end, some_next, going-refused, going_next}
 use Rattle.rules.proofs.opening.lay_all.Goals as goal
 
-pub loop-i-init : goal.loop-i-init
-loop-i-init c = (c.requires.1, refl, refl, going_start _ _ _ _)
+pub open_one-requires : goal.open_one-requires
+open_one-requires c =
+    let s = some_next _ _ _ _ _ _ _ _ _ _ _ c.loop-i.invariant.1 c.loop-i-test.true c.requires.0 in
+    (s, c.loop-i.invariant.0)
 
-pub overflow_cast-own : goal.overflow_cast-own
-overflow_cast-own c = let s = small _ _ _ _ _ _ _ _ _ _ _ c.loop-i.invariant.3 c.requires.0 in search rules
-
-pub overflow_cast-firsts : goal.overflow_cast-firsts
-overflow_cast-firsts c = let s = small _ _ _ _ _ _ _ _ _ _ _ c.loop-i.invariant.3 c.requires.0 in search rules
-
-pub overflow_cast-cell : goal.overflow_cast-cell
-overflow_cast-cell c = let l = cell-inside _ _ _ _ (some_next _ _ _ _ _ _ _ _ _ _ _ c.loop-i.invariant.3 c.loop-i-test.true c.requires.0) in search rules
-
-pub open_one-one-requires : goal.open_one-one-requires
-open_one-one-requires c = (some_next _ _ _ _ _ _ _ _ _ _ _ c.loop-i.invariant.3 c.loop-i-test.true c.requires.0, c.loop-i.invariant.0)
-
-pub returns-then-one-ne0 : goal.returns-then-one-ne0
-returns-then-one-ne0 c = (going-refused _ _ _ _ _ _ _ _ _ _ _ c.loop-i.invariant.3 c.loop-i-test.true _ _ _ _ _ _ c.open_one-one.ensures.0 c.if-one-ne0.true _, c.open_one-one.ensures.1, simp length-set c.loop-i.invariant.1, simp length-set c.loop-i.invariant.2)
+pub returns-in_err-laid : goal.returns-in_err-laid
+returns-in_err-laid c =
+    let (e, z, t) = was-fault _ _ _ c.map_err.ensures.cases _ c.in_err-laid.was in
+    let t' : c.in_err-laid.field-0.0 ≡ AtLetter e.rule c.loop-i.i-counter e.letter = search rules in
+    let p = err_from_is_err_and c.from_residual.result c.from_residual.ensures.1 in
+    (rw (p.1, p.2) (going-refused _ _ _ _ _ _ _ _ _ _ _ c.loop-i.invariant.1 c.loop-i-test.true _ _ _ c.open_one.ensures.0 e z _ t' _), c.open_one.ensures.1)
 
 pub loop-i-preserved : goal.loop-i-preserved
-loop-i-preserved c = (c.open_one-one.ensures.1, simp length-set c.loop-i.invariant.1, simp length-set c.loop-i.invariant.2, going_next _ _ _ _ _ _ _ _ _ _ _ c.loop-i.invariant.3 c.loop-i-test.true _ _ _ _ _ _ c.open_one-one.ensures.0 c.if-one-ne0.false)
+loop-i-preserved c =
+    let z = was-laid _ _ _ c.map_err.ensures.cases _ c.in_ok-laid.was in
+    (c.open_one.ensures.1, going_next _ _ _ _ _ _ _ _ _ _ _ c.loop-i.invariant.1 c.loop-i-test.true _ _ _ c.open_one.ensures.0 _ z refl refl)
 
 pub returns : goal.returns
-returns c = (going_end _ _ _ _ _ _ _ _ _ _ _ c.loop-i.invariant.3 (λ h. omega (arith, c.loop-i-test.false)), c.loop-i.invariant.0, c.loop-i.invariant.1, c.loop-i.invariant.2)
+returns c = (going_end _ _ _ _ _ _ _ _ _ _ _ c.loop-i.invariant.1 (λ h. omega (arith, c.loop-i-test.false)), c.loop-i.invariant.0)

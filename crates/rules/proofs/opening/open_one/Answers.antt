@@ -15,13 +15,13 @@ pub bounds-words-cell : goal.bounds-words-cell
 bounds-words-cell c = cell-inside _ _ _ _ c.requires.0
 
 pub returns-then-impossible-ne0 : goal.returns-then-impossible-ne0
-returns-then-impossible-ne0 c = (opens-impossible _ _ _ _ _ c.part2-impossible.ensures c.if-impossible-ne0.true _ _, c.requires.1)
+returns-then-impossible-ne0 c = (opens-impossible _ _ _ _ _ c.part2-impossible.ensures c.if-impossible-ne0.true _, c.requires.1)
 
 pub returns-then-part1-ne0 : goal.returns-then-part1-ne0
-returns-then-part1-ne0 c = (opens-null _ _ _ _ _ c.part2-impossible.ensures c.if-impossible-ne0.false _ c.part1.ensures c.if-part1-ne0.true _ _, c.requires.1)
+returns-then-part1-ne0 c = (opens-null _ _ _ _ _ c.part2-impossible.ensures c.if-impossible-ne0.false _ c.part1.ensures c.if-part1-ne0.true _, c.requires.1)
 
 pub returns-then-hollow-ne0 : goal.returns-then-hollow-ne0
-returns-then-hollow-ne0 c = (opens-hollow _ _ _ _ _ c.part2-impossible.ensures c.if-impossible-ne0.false _ c.part1.ensures c.if-part1-ne0.false _ c.part3-hollow.ensures c.if-hollow-ne0.true _ _, c.requires.1)
+returns-then-hollow-ne0 c = (opens-hollow _ _ _ _ _ c.part2-impossible.ensures c.if-impossible-ne0.false _ c.part1.ensures c.if-part1-ne0.false _ c.part3-hollow.ensures c.if-hollow-ne0.true _, c.requires.1)
 
 pub overflow_add-cell : goal.overflow_add-cell
 overflow_add-cell c = let l = cell-inside _ _ _ _ c.requires.0 in search rules
@@ -36,4 +36,4 @@ pub lay_one-requires : goal.lay_one-requires
 lay_one-requires c = some-exp _ _ _ _ _ c.part2-impossible.ensures c.if-impossible-ne0.false _ c.part1.ensures c.if-part1-ne0.false _ c.part3-hollow.ensures c.if-hollow-ne0.false _ c.part0.ensures c.requires.0
 
 pub returns : goal.returns
-returns c = (opens-ruled _ _ _ _ _ c.part2-impossible.ensures c.if-impossible-ne0.false _ c.part1.ensures c.if-part1-ne0.false _ c.part3-hollow.ensures c.if-hollow-ne0.false _ c.part0.ensures _ _ _ _ _ _ _ _ c.lay_one.ensures c.requires.1, ruled-arrays _ _ _ _ _ c.part2-impossible.ensures c.if-impossible-ne0.false _ c.part1.ensures c.if-part1-ne0.false _ c.part3-hollow.ensures c.if-hollow-ne0.false _ c.part0.ensures _ _ _ _ _ _ _ _ c.lay_one.ensures c.requires.1 c.requires.0)
+returns c = (opens-ruled _ _ _ _ _ c.part2-impossible.ensures c.if-impossible-ne0.false _ c.part1.ensures c.if-part1-ne0.false _ c.part3-hollow.ensures c.if-hollow-ne0.false _ c.part0.ensures _ _ _ c.lay_one.ensures c.requires.1, ruled-arrays _ _ _ _ _ c.part2-impossible.ensures c.if-impossible-ne0.false _ c.part1.ensures c.if-part1-ne0.false _ c.part3-hollow.ensures c.if-hollow-ne0.false _ c.part0.ensures _ _ _ c.lay_one.ensures c.requires.1 c.requires.0)

@@ -12,4 +12,4 @@ pub bounds-words-free-3 : goal.bounds-words-free-3
 bounds-words-free-3 c = simp length-set (omega arith)
 
 pub returns : goal.returns
-returns c = rw c.quad.ensures (letter-made _ _ _ _ c.requires.0 c.requires.1 c.requires.2 c.requires.3 c.requires.4 _ c.impossible_letter.ensures)
+returns c = rw (c.quad.ensures, c.number.ensures) (letter-made _ _ _ _ c.requires.0 c.requires.1 c.requires.2 c.requires.3 c.requires.4 _ c.impossible_letter.ensures)

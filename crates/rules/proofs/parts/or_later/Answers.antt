@@ -10,8 +10,5 @@ returns-then-first-ne0 c = later_first _ _ _ c.if-first-ne0.true
 pub returns-then-second-eq0 : goal.returns-then-second-eq0
 returns-then-second-eq0 c = later-none _ _ _ c.if-first-ne0.false c.if-second-eq0.true
 
-pub returns-then-letters-second-gt258 : goal.returns-then-letters-second-gt258
-returns-then-letters-second-gt258 c = later_second _ _ _ c.if-first-ne0.false c.if-second-eq0.false _ (omega arith)
-
 pub returns : goal.returns
-returns c = later_second _ _ _ c.if-first-ne0.false c.if-second-eq0.false _ (omega arith)
+returns c = later_second _ _ _ c.if-first-ne0.false c.if-second-eq0.false _ (omega (arith, c.min.ensures))

@@ -4,17 +4,18 @@ use native.Mathlib.Omega.{arith}
 use mathlib.Core.Path.{refl}
 use mathlib.Core.List.{[]}
 use lib.ListN.{length-set}
+use Rattle.rules.proofs.Misreads.{exit, some}
 use Rattle.rules.proofs.MonitorSteps.{monitor-unknown, monitor-inside, monitor-crowded, monitor-listed}
 use Rattle.rules.proofs.statements.one_monitor.Goals as goal
 
-pub returns-then-p-ne0 : goal.returns-then-p-ne0
-returns-then-p-ne0 c = (monitor-unknown _ _ _ _ _ c.see-t.ensures _ _ c.find_kind-p.ensures _ _ c.if-p-ne0.true, refl)
+pub returns-in_err-cell : goal.returns-in_err-cell
+returns-in_err-cell c = rw (exit _ c.from_residual.ensures.1, c.in_err-cell.ensures.1) ((monitor-unknown _ _ _ _ _ c.see-t.ensures _ _ c.in_err-cell.ensures.0 _ _ (some _), refl))
 
 pub returns-then-count-ge32 : goal.returns-then-count-ge32
-returns-then-count-ge32 c = (monitor-crowded _ _ _ _ _ c.see-t.ensures _ _ c.find_kind-p.ensures _ _ c.if-p-ne0.false c.if-count-ge32.true, refl)
+returns-then-count-ge32 c = rw (c.refused.ensures.0, c.refused.ensures.1) ((monitor-crowded _ _ _ _ _ c.see-t.ensures _ _ c.in_ok-cell.ensures.0 _ _ refl c.if-count-ge32.true, refl))
 
 pub overflow_cast-list : goal.overflow_cast-list
-overflow_cast-list c = let l = monitor-inside _ _ _ _ _ c.see-t.ensures _ _ c.find_kind-p.ensures [] 0 c.if-p-ne0.false c.requires.0 in let m = c.requires.1 in omega arith
+overflow_cast-list c = let l = monitor-inside _ _ _ _ _ c.see-t.ensures _ _ c.in_ok-cell.ensures.0 [] 0 refl c.requires.0 in let m = c.requires.1 in omega arith
 
 pub returns : goal.returns
-returns c = (monitor-listed _ _ _ _ _ c.see-t.ensures _ _ c.find_kind-p.ensures _ _ c.if-p-ne0.false c.requires.0 (omega arith) (let e = c.requires.2 in omega arith), simp length-set refl)
+returns c = (monitor-listed _ _ _ _ _ c.see-t.ensures _ _ c.in_ok-cell.ensures.0 _ _ refl c.requires.0 (omega arith) (let e = c.requires.2 in omega arith), simp length-set refl)

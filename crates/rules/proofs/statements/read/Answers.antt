@@ -2,23 +2,31 @@
 -- Assumes nothing.
 use native.Mathlib.Omega.{arith}
 use mathlib.Core.Path.{refl}
-use Rattle.rules.proofs.StatementSteps.{text-refused, text-names, text-read}
+use Rattle.rules.proofs.Misreads.{exit}
+use Rattle.rules.proofs.StatementSteps.{text-refused, text-names, text-ok, text-unread}
 use Rattle.rules.proofs.statements.read.Goals as goal
 
-pub statements-d-requires : goal.statements-d-requires
-statements-d-requires c = (c.requires.0, c.requires.1, c.requires.2, c.requires.3)
+pub statements-requires : goal.statements-requires
+statements-requires c = (c.requires.0, c.requires.1, c.requires.2, c.requires.3)
 
-pub shape_of-words-then-d-ne0 : goal.shape_of-words-then-d-ne0
-shape_of-words-then-d-ne0 c = c.statements-d.ensures.words
+pub shape_of-words-in_err-d : goal.shape_of-words-in_err-d
+shape_of-words-in_err-d c = c.in_err-d.ensures.words
 
-pub returns-then-d-ne0 : goal.returns-then-d-ne0
-returns-then-d-ne0 c = (text-refused _ _ _ _ _ _ c.statements-d.ensures c.if-d-ne0.true _ _ _ _ _ _, c.statements-d.ensures.words, c.statements-d.ensures.values, refl)
+pub returns-in_err-d : goal.returns-in_err-d
+returns-in_err-d c = rw (exit _ c.from_residual.ensures.1) (text-refused _ _ _ _ _ _ c.in_err-d.ensures _, c.in_err-d.ensures.words, c.in_err-d.ensures.values, refl)
 
-pub monitors-m-requires : goal.monitors-m-requires
-monitors-m-requires c = (text-names _ _ _ _ _ _ c.statements-d.ensures c.if-d-ne0.false, let l = c.requires.2 in omega (arith, c.statements-d.ensures.words), c.requires.4)
+pub monitors-requires : goal.monitors-requires
+monitors-requires c = (text-names _ _ _ _ c.in_ok-d.ensures.outcome, let l = c.requires.2 in omega (arith, c.in_ok-d.ensures.words), c.requires.4)
+
+pub shape_of-words-in_err-m : goal.shape_of-words-in_err-m
+shape_of-words-in_err-m c = c.in_ok-d.ensures.words
+
+pub returns-in_err-m : goal.returns-in_err-m
+returns-in_err-m c =
+    rw (exit _ c.from_residual-in_err-m.ensures.1) (text-unread _ _ _ _ c.in_ok-d.ensures.outcome _ _ _ _ c.in_err-m.ensures.0, c.in_ok-d.ensures.words, c.in_ok-d.ensures.values, c.in_err-m.ensures.1)
 
 pub shape_of-words : goal.shape_of-words
-shape_of-words c = c.statements-d.ensures.words
+shape_of-words c = c.in_ok-d.ensures.words
 
 pub returns : goal.returns
-returns c = (text-read _ _ _ _ _ _ c.statements-d.ensures c.if-d-ne0.false _ _ _ _ c.monitors-m.ensures.0, c.statements-d.ensures.words, c.statements-d.ensures.values, c.monitors-m.ensures.1)
+returns c = (text-ok _ _ _ _ c.in_ok-d.ensures.outcome _ _ _ c.in_ok-m.ensures.0, c.in_ok-d.ensures.words, c.in_ok-d.ensures.values, c.in_ok-m.ensures.1)

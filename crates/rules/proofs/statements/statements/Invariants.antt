@@ -7,8 +7,8 @@ use Rattle.meaning.specs.Reading.{statement as expected}
 use Rattle.rules.specs.Statements.{Declaring}
 use Rattle.rules.proofs.statements.statements.Given as goal
 
-abbrev pub invariant-loop-d : goal.invariant-loop-d
-invariant-loop-d l = (l.d.fault ≡ 0) × (length l.words ≡ length l.initial.words) × (length l.kept ≡ length l.initial.kept) × Declaring l.text l.words l.kept l.d expected
+abbrev pub invariant-loop-t : goal.invariant-loop-t
+invariant-loop-t l = (length l.words ≡ length l.initial.words) × (length l.kept ≡ length l.initial.kept) × Declaring l.text l.words l.kept l.d expected
 
-abbrev pub decreases-loop-d : goal.decreases-loop-d
-decreases-loop-d l = length l.text - l.d.at
+abbrev pub decreases-loop-t : goal.decreases-loop-t
+decreases-loop-t l = length l.text - l.d.at

@@ -1,11 +1,11 @@
 -- `rules::tokens::keyword` meets its contract.
 -- Assumes nothing.
-use mathlib.Core.Path.{sym, ◌∙◌}
+use borrow.Author.Rules.{rules}
 use Rattle.rules.proofs.Stepping.{word-behind, word-not}
 use Rattle.rules.proofs.tokens.keyword.Goals as goal
 
-pub returns-then-t-kind : goal.returns-then-t-kind
-returns-then-t-kind c = λ w q. word-behind _ _ _ c.see-t.ensures w (c.if-t-kind.true ∙ q)
+pub returns-then-eq : goal.returns-then-eq
+returns-then-eq c = word-behind _ _ _ c.see-t.ensures _ (search rules)
 
-pub returns : goal.returns
-returns c = λ w q. word-not _ _ _ c.see-t.ensures w (λ e. c.if-t-kind.false (e ∙ sym q))
+pub returns-else-eq : goal.returns-else-eq
+returns-else-eq c = rw (c.misplaced.ensures.0, c.misplaced.ensures.1) (word-not _ _ _ c.see-t.ensures _ (search rules))

@@ -1,13 +1,11 @@
 -- `rules::tokens::nought` meets its contract.
 -- Assumes nothing.
-use Rattle.rules.proofs.Stepping.{nought-none, nought-not, nought-behind}
+use borrow.Author.Rules.{rules}
+use Rattle.rules.proofs.Stepping.{nought-not, nought-behind}
 use Rattle.rules.proofs.tokens.nought.Goals as goal
 
-pub returns-then-t-ne-NUMBER : goal.returns-then-t-ne-NUMBER
-returns-then-t-ne-NUMBER c = nought-none _ _ _ c.see-t.ensures c.if-t-ne-NUMBER.true
+pub returns-then-eq : goal.returns-then-eq
+returns-then-eq c = nought-behind _ _ _ c.see-t.ensures (search rules)
 
-pub returns-then-t-ne0 : goal.returns-then-t-ne0
-returns-then-t-ne0 c = nought-not _ _ _ c.see-t.ensures c.if-t-ne-NUMBER.false c.if-t-ne0.true
-
-pub returns : goal.returns
-returns c = nought-behind _ _ _ c.see-t.ensures c.if-t-ne-NUMBER.false c.if-t-ne0.false
+pub returns-else-eq : goal.returns-else-eq
+returns-else-eq c = rw (c.misplaced.ensures.0, c.misplaced.ensures.1) (nought-not _ _ _ c.see-t.ensures (search rules))

@@ -1,10 +1,11 @@
 -- `rules::tokens::sign` meets its contract.
 -- Assumes nothing.
+use borrow.Author.Rules.{rules}
 use Rattle.rules.proofs.Stepping.{sign-behind, sign-not}
 use Rattle.rules.proofs.tokens.sign.Goals as goal
 
-pub returns-then-t-k : goal.returns-then-t-k
-returns-then-t-k c = sign-behind _ _ _ c.see-t.ensures _ c.requires c.if-t-k.true
+pub returns-then-eq : goal.returns-then-eq
+returns-then-eq c = sign-behind _ _ _ c.see-t.ensures _ (search rules)
 
-pub returns : goal.returns
-returns c = sign-not _ _ _ c.see-t.ensures _ c.requires c.if-t-k.false
+pub returns-else-eq : goal.returns-else-eq
+returns-else-eq c = rw (c.misplaced.ensures.0, c.misplaced.ensures.1) (sign-not _ _ _ c.see-t.ensures _ (search rules))

@@ -1,34 +1,36 @@
 -- The answers to the goals of `rules::writes::more_writes`.
+use borrow.Author.Rules.{rules}
 use native.Mathlib.Omega.{arith}
 use mathlib.Core.Path.{refl}
+use Rattle.rules.proofs.Misreads.{exit, some}
 use Rattle.rules.proofs.Stepping.{well, since, inside-text}
 use Rattle.rules.proofs.WriteSteps.{so-none, so-given, so-closed, so-next, fails-too}
 use Rattle.rules.proofs.writes.more_writes.Goals as goal
 
-pub loop-w-init : goal.loop-w-init
-loop-w-init c = (refl, so-none _ _ _ _ _ _ _ c.requires)
+pub loop-t-init : goal.loop-t-init
+loop-t-init c = so-none _ _ _ _ _ _ _ c.requires
 
-pub shape_of-words-then-t-eq-RIGHT_BRACE : goal.shape_of-words-then-t-eq-RIGHT_BRACE
-shape_of-words-then-t-eq-RIGHT_BRACE c = c.loop-w.invariant.1.extends.long
+pub shape_of-words-then-eq : goal.shape_of-words-then-eq
+shape_of-words-then-eq c = c.loop-t.invariant.extends.long
 
-pub returns-then-t-eq-RIGHT_BRACE : goal.returns-then-t-eq-RIGHT_BRACE
-returns-then-t-eq-RIGHT_BRACE c = so-closed _ _ _ _ _ _ _ _ _ _ _ _ c.loop-w.invariant.1 _ c.see-t.ensures c.if-t-eq-RIGHT_BRACE.true
+pub returns-then-eq : goal.returns-then-eq
+returns-then-eq c = so-closed _ _ _ _ _ _ _ _ _ _ _ _ c.loop-t.invariant _ c.see-t.ensures (search rules)
 
-pub write_one-w-requires : goal.write_one-w-requires
-write_one-w-requires c = (so-given _ _ _ _ _ _ _ _ _ _ _ _ c.loop-w.invariant.1 c.requires _ (since _ _ _ c.see-t.ensures c.loop-w.invariant.1.spent.inside) (let p = inside-text _ _ _ c.see-t.ensures in omega arith), (_, c.see-t.ensures))
+pub write_one-requires : goal.write_one-requires
+write_one-requires c = (so-given _ _ _ _ _ _ _ _ _ _ _ _ c.loop-t.invariant c.requires _ (since _ _ _ c.see-t.ensures c.loop-t.invariant.spent.inside) (let p = inside-text _ _ _ c.see-t.ensures in omega arith), (_, c.see-t.ensures))
 
-pub shape_of-words-then-w-ne0 : goal.shape_of-words-then-w-ne0
-shape_of-words-then-w-ne0 c = (so-next _ _ _ _ _ _ _ _ _ _ _ _ c.loop-w.invariant.1 _ c.see-t.ensures c.loop-w.invariant.1.spent.inside c.if-t-eq-RIGHT_BRACE.false _ _ _ _ _ _ c.write_one-w.ensures.0).long
+pub shape_of-words-in_err-w : goal.shape_of-words-in_err-w
+shape_of-words-in_err-w c = (so-next _ _ _ _ _ _ _ _ _ _ _ _ c.loop-t.invariant _ c.see-t.ensures c.loop-t.invariant.spent.inside (search rules) _ _ _ _ _ _ c.in_err-w.ensures.0).long
 
-pub returns-then-w-ne0 : goal.returns-then-w-ne0
-returns-then-w-ne0 c = fails-too _ _ _ _ _ _ _ _ _ _ _ _ _ _ _ _ _ _ _ _ _ (so-next _ _ _ _ _ _ _ _ _ _ _ _ c.loop-w.invariant.1 _ c.see-t.ensures c.loop-w.invariant.1.spent.inside c.if-t-eq-RIGHT_BRACE.false _ _ _ _ _ _ c.write_one-w.ensures.0) c.if-w-ne0.true
+pub returns-in_err-w : goal.returns-in_err-w
+returns-in_err-w c = rw (exit _ c.from_residual.ensures.1) (fails-too _ _ _ _ _ _ _ _ _ _ _ _ _ _ _ _ _ _ _ _ _ (so-next _ _ _ _ _ _ _ _ _ _ _ _ c.loop-t.invariant _ c.see-t.ensures c.loop-t.invariant.spent.inside (search rules) _ _ _ _ _ _ c.in_err-w.ensures.0) (some _))
 
-pub loop-w-smaller : goal.loop-w-smaller
-loop-w-smaller c =
-    let g = well c.write_one-w.ensures.0.outcome c.if-w-ne0.false in
+pub loop-t-smaller : goal.loop-t-smaller
+loop-t-smaller c =
+    let g = well c.in_ok-w.ensures.0.outcome refl in
     let s = g.spent in
-    let l = since _ _ _ c.see-t.ensures c.loop-w.invariant.1.spent.inside in
-    omega (arith, s.since, s.inside, c.write_one-w.ensures.1 c.if-w-ne0.false)
+    let l = since _ _ _ c.see-t.ensures c.loop-t.invariant.spent.inside in
+    omega (arith, s.since, s.inside, c.in_ok-w.ensures.1)
 
-pub loop-w-preserved : goal.loop-w-preserved
-loop-w-preserved c = (c.if-w-ne0.false, well (so-next _ _ _ _ _ _ _ _ _ _ _ _ c.loop-w.invariant.1 _ c.see-t.ensures c.loop-w.invariant.1.spent.inside c.if-t-eq-RIGHT_BRACE.false _ _ _ _ _ _ c.write_one-w.ensures.0).outcome c.if-w-ne0.false)
+pub loop-t-preserved : goal.loop-t-preserved
+loop-t-preserved c = well (so-next _ _ _ _ _ _ _ _ _ _ _ _ c.loop-t.invariant _ c.see-t.ensures c.loop-t.invariant.spent.inside (search rules) _ _ _ _ _ _ c.in_ok-w.ensures.0).outcome refl

@@ -1,25 +1,11 @@
--- The answers to the goals of `shape::sets::lowest_in`.
-use mathlib.Core.Path.{refl, sym, ◌∙◌}
+-- `shape::sets::lowest_in` meets its contract. Assumes nothing.
+use Prim.Native.Nat.{◌-◌}
 use native.Mathlib.Omega.{arith}
-use Rattle.shape.proofs.Lowest.{lowest-here, lowest-next, lowest-end}
-use Rattle.shape.proofs.Bits.{rest_all, rest_has, rest-lacks, rest-next}
+use Rattle.shape.proofs.Bits.{lowest_bit, no_bit}
 use Rattle.shape.proofs.sets.lowest_in.Goals as goal
 
-pub loop-i-init : goal.loop-i-init
-loop-i-init c = (omega arith, rest_all _ _, refl)
+pub returns-then-place-stop : goal.returns-then-place-stop
+returns-then-place-stop c = let args = c.args in (lowest_bit args.set args.first c.ranges.set.fits (args.stop - args.first) (omega arith) c.if-place-stop.true, omega arith)
 
-pub returns-then-rest-eq1 : goal.returns-then-rest-eq1
-returns-then-rest-eq1 c =
-    let (from, left, same) = c.loop-i.invariant in
-    sym (lowest-here _ _ _ c.loop-i-test.true (rest_has _ _ _ _ left c.if-rest-eq1.true)) ∙ same
-
-pub loop-i-preserved : goal.loop-i-preserved
-loop-i-preserved c =
-    let (from, left, same) = c.loop-i.invariant in (
-      omega arith,
-      rest-next _ _ _ _ left from,
-      sym (lowest-next _ _ _ c.loop-i-test.true (rest-lacks _ _ _ _ left c.if-rest-eq1.false)) ∙ same,
-    )
-
-pub returns : goal.returns
-returns c = sym (lowest-end _ _ _ c.loop-i-test.false) ∙ c.loop-i.invariant.2
+pub returns-else-place-stop : goal.returns-else-place-stop
+returns-else-place-stop c = let args = c.args in no_bit args.set args.first c.ranges.set.fits args.stop (omega arith) c.if-place-stop.false

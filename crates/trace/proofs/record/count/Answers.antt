@@ -1,11 +1,7 @@
 -- `trace::record::count` meets its contract: the set digits of a number below 2 ^ i are those of its i lowest bits. Assumes nothing.
 use native.Mathlib.Omega.{arith}
-use lib.Count.{ones-le}
 use Rattle.trace.proofs.Bits.{ones-count}
 use Rattle.trace.proofs.record.count.Goals as goal
-
-pub overflow_cast-result : goal.overflow_cast-result
-overflow_cast-result c = omega (arith, ones-le 8 c.args.map (omega arith))
 
 pub returns : goal.returns
 returns c = ones-count c.args.map (omega arith)

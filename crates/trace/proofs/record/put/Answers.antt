@@ -28,8 +28,5 @@ loop-i-preserved c =
       | else-bit-eq1 w ↦ putting-skip _ _ _ _ _ _ m (omega arith) (simp length-set c.requires) _ _ (λ h. w.if-bit-eq1.false (c.bit.ensures ∙ h)) w.out-is w.at-is
     ]
 
-pub shape_of-out : goal.shape_of-out
-shape_of-out c = c.loop-i.invariant.long ∙ simp length-set
-
 pub returns : goal.returns
 returns c = putting-done _ _ _ _ _ _ c.loop-i.invariant (omega arith)

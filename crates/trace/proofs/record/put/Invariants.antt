@@ -1,10 +1,6 @@
 -- `trace::record::put` meets its contract. After i turns the picked bytes below i stand behind the map. Assumes nothing.
-use Prim.Native.Nat.{◌-◌}
 use Rattle.trace.proofs.Writing.{Putting}
 use Rattle.trace.proofs.record.put.Given as goal
 
 abbrev pub invariant-loop-i : goal.invariant-loop-i
 invariant-loop-i l = Putting l.map l.word l.initial.out l.out l.at l.i
-
-abbrev pub decreases-loop-i : goal.decreases-loop-i
-decreases-loop-i l = 8 - l.i

@@ -1,19 +1,18 @@
 -- `trace::record::read_record` meets its contract. Assumes nothing.
-use Rattle.trace.proofs.Reading.{read-empty, read-torn, read-merged}
+use Rattle.std.specs.Prelude.{Some, None}
+use Rattle.trace.proofs.Reading.{read-none, read-torn, read-merged}
 use Rattle.trace.proofs.record.read_record.Goals as goal
 
-pub returns-then-rest-eq0 : goal.returns-then-rest-eq0
-returns-then-rest-eq0 c = read-empty _ _ c.if-rest-eq0.true
+pub returns-in_default : goal.returns-in_default
+returns-in_default c = read-none _ _ c.in_default.ensures.cases
 
 pub returns-then-given-follow : goal.returns-then-given-follow
-returns-then-given-follow c = read-torn _ _ _ c.if-rest-eq0.false c.count-follow.ensures c.if-given-follow.true
+returns-then-given-follow c = read-torn _ _ _ _ _ c.in-Some.ensures.cases.0 c.count-follow.ensures c.if-given-follow.true
 
-pub returns-in-Word : goal.returns-in-Word
-returns-in-Word c =
-    read-merged _ _ _ c.if-rest-eq0.false c.count-follow.ensures _ _ c.if-given-follow.false
-    c.merge.ensures c.in-Word.is
+pub returns-in_default-merge : goal.returns-in_default-merge
+returns-in_default-merge c =
+    read-merged _ _ _ _ _ c.in-Some.ensures.cases.0 c.count-follow.ensures None c.if-given-follow.false c.in_default-merge.ensures
 
-pub returns-in-Idle : goal.returns-in-Idle
-returns-in-Idle c =
-    read-merged _ _ _ c.if-rest-eq0.false c.count-follow.ensures _ _ c.if-given-follow.false
-    c.merge.ensures c.in-Idle.is
+pub returns : goal.returns
+returns c =
+    read-merged _ _ _ _ _ c.in-Some.ensures.cases.0 c.count-follow.ensures (Some c.in-Some-merge.word) c.if-given-follow.false c.in-Some-merge.ensures

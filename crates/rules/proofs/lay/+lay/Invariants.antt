@@ -1,5 +1,0 @@
--- Measures of `lay` of `rules::lay`, which calls itself.
-use Rattle.rules.proofs.lay.+lay.Given as goal
-
-abbrev pub decreases-lay : goal.decreases-lay
-decreases-lay l = l.node

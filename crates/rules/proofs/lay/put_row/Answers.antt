@@ -1,6 +1,0 @@
--- `rules::lay::put_row` meets its contract.
--- Assumes nothing.
-use Rattle.rules.proofs.lay.put_row.Goals as goal
-
-pub returns : goal.returns
-returns c = rw c.quad.ensures

@@ -1,0 +1,6 @@
+-- `seq` of `shape::ends::EndSets` meets its contract. Assumes nothing.
+use Rattle.shape.proofs.Bits.{has-or}
+use Rattle.shape.proofs.ends.EndSetsSummary.seq.Goals as goal
+
+pub returns : goal.returns
+returns c = λ x. simp (has-or, c.kept.ensures x)

@@ -1,6 +1,0 @@
--- `shape::ends::pipe_ends` meets its contract. Assumes nothing.
-use Rattle.shape.proofs.Bits.{has-or, has-and}
-use Rattle.shape.proofs.ends.pipe_ends.Goals as goal
-
-pub returns : goal.returns
-returns c = λ x. simp (has-or, has-and)

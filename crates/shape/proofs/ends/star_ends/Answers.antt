@@ -1,6 +1,0 @@
--- `shape::ends::star_ends` meets its contract. Assumes nothing.
-use Rattle.shape.proofs.Bits.{has-or}
-use Rattle.shape.proofs.ends.star_ends.Goals as goal
-
-pub returns : goal.returns
-returns c = λ x. simp has-or

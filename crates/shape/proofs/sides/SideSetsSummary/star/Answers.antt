@@ -1,0 +1,6 @@
+-- `star` of `shape::sides::SideSets` meets its contract. Assumes nothing.
+use Rattle.shape.proofs.Bits.{has-or}
+use Rattle.shape.proofs.sides.SideSetsSummary.star.Goals as goal
+
+pub returns : goal.returns
+returns c = λ x. simp (has-or, c.linked.ensures x)

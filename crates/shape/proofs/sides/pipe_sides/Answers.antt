@@ -1,6 +1,0 @@
--- `shape::sides::pipe_sides` meets its contract. Assumes nothing.
-use Rattle.shape.proofs.Bits.{has-or, has-and}
-use Rattle.shape.proofs.sides.pipe_sides.Goals as goal
-
-pub returns : goal.returns
-returns c = λ x. simp (has-or, has-and)

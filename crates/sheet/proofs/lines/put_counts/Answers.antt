@@ -1,7 +1,0 @@
--- `sheet::lines::put_counts` meets its contract.
--- Assumes nothing.
-use Rattle.sheet.proofs.LineSteps.{counts-put}
-use Rattle.sheet.proofs.lines.put_counts.Goals as goal
-
-pub returns : goal.returns
-returns c = let p = c.put_text-named in let q = c.put_decimal-counted in let r = c.put_text-again in let s = c.put_decimal-placed in let t = c.put in counts-put c.args.rows c.args.letters (record { wrote = p.ensures.0; behind = p.ensures.1 }) (record { wrote = q.ensures.0; behind = q.ensures.1 }) (record { wrote = r.ensures.0; behind = r.ensures.1 }) (record { wrote = s.ensures.0; behind = s.ensures.1 }) (record { wrote = t.ensures.0; behind = t.ensures.1 }) q.ensures.2 s.ensures.2

@@ -1,6 +1,0 @@
--- `sheet::totals` meets its contract. Assumes nothing.
-use native.Mathlib.Omega.{arith}
-use Rattle.sheet.proofs.totals.Goals as goal
-
-pub returns : goal.returns
-returns c = let p = c.put_foot.ensures in (p.0, omega (arith, p.1))
