@@ -90,6 +90,8 @@ use Rattle.monitor.proofs.tables_of.Statement as tables-of
 use Rattle.monitor.proofs.tables_of.Met as tables-of-met
 use Rattle.monitor.proofs.layout_of.Statement as layout_of
 use Rattle.monitor.proofs.layout_of.Met as layout-of-met
+use Rattle.monitor.proofs.layout_of_watch.Statement as layout_of_watch
+use Rattle.monitor.proofs.layout_of_watch.Met as layout-of-watch-met
 use Rattle.monitor.proofs.touched.Statement as touched-by
 use Rattle.monitor.proofs.touched.Met as touched-by-met
 use Rattle.monitor.proofs.touched_in.Statement as touched-in
@@ -246,6 +248,9 @@ tables-of-entry = tables-of-met.met
 
 pub layout-of-entry : {M : Type 1} → layout_of.statement M
 layout-of-entry = layout-of-met.met
+
+pub layout-of-watch-entry : {M : Type 1} → layout_of_watch.statement M
+layout-of-watch-entry = layout-of-watch-met.met
 
 -- where a letter of a monitor stands among all
 pub letter-at-entry : {M : Type 1} → letter_at.statement M
