@@ -1,5 +1,5 @@
-// Reading and writing one million words, sparse and dense: the proved library against the same
-// loops in plain Rust, in one run. Prints for each the best time of both and their ratio.
+// Reading and writing one million words, sparse and dense: the proved library against plain Rust,
+// in one run. Prints for each the best time of both and their ratio.
 
 use std::hint::black_box;
 use std::time::Instant;

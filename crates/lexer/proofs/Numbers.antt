@@ -1,20 +1,19 @@
 -- What the code finds where a number begins is what the definition says.
 -- Assumes nothing.
 use mathlib.Core.Path.{◌≡◌, refl, sym, ◌∙◌, ap}
+use mathlib.Core.Bool.{true, false}
 use mathlib.Core.List.{List, [], ◌∷◌}
 use Prim.Native.Nat.{ℕ, ◌+◌, ◌-◌, ◌*◌, ◌^◌, ◌<◌, ◌≤◌}
 use native.Mathlib.Nat.{le_refl, le_trans}
 use native.Mathlib.Omega.{arith}
-use lib.ListN.{length, take, drop, get_or, drop_of_length-le}
+use lib.ListN.{length, drop, get_or, length-drop}
+use lib.Seq.{get_or-drop}
 use borrow.Author.Tests.{lt-ltb, le-ltb}
-use Rattle.std.proofs.Common.{Option, None, MatchOption}
 use Rattle.lexer.specs.declared.Kind.TheVariants.{Number}
 use Rattle.lexer.specs.Bytes.{run, is_digit}
 use Rattle.lexer.specs.Tokens.{number, knot, value_from, number_token}
 use Rattle.lexer.specs.Shown.{shown}
-use Rattle.std.proofs.lemmas.List.{drop_more}
-use Rattle.lexer.proofs.Runs.{run-passes, run-run, take-run}
-use Rattle.lexer.proofs.ByteClass.{digit-range}
+use Rattle.lexer.proofs.Runs.{run_at, run_ends, run-goes, run-stops, run_past}
 use Rattle.lexer.proofs.Names.{placed}
 
 -- digits more never make a value less
@@ -23,45 +22,67 @@ unfolding value_from
 value_grows v [] = le_refl v
 value_grows v (d ∷ ds) = le_trans (omega arith) (value_grows (v * 10 + (d - 48)) ds)
 
--- the digit at i of a list of digits, read after the value v
-module _ (s : List ℕ) (digits : run is_digit s ≡ s) (v i : ℕ) (here : i < length s) where
-  pub digit-here : (48 ≤ get_or s i 0) × (get_or s i 0 ≤ 57)
-  digit-here = digit-range (get_or s i 0) (run-passes is_digit s i (rw digits here))
+-- the number at p, read up to i, has the value v so far
+pub record Read (s : List ℕ) (p v i : ℕ) : Type 0 where
+  pub ends : i + length (run is_digit (drop i s)) ≡ p + length (run is_digit (drop p s))
+  pub value : value_from v (run is_digit (drop i s)) ≡ value_from 0 (run is_digit (drop p s))
+  pub fits : v < 2 ^ 64
 
-  pub value-goes : value_from v (drop i s) ≡ value_from (v * 10 + (get_or s i 0 - 48)) (drop (i + 1) s)
-  unfolding value_from
-  value-goes = ap (value_from v) (drop_more s i 0 here)
+pub number-begins : (s : List ℕ) (p : ℕ) → Read s p 0 p
+number-begins s p = record { ends = refl; value = refl; fits = omega arith }
 
-  -- the value at the end is no less
-  pub value-large : (m : ℕ) → value_from v (drop i s) ≡ m → v * 10 + (get_or s i 0 - 48) ≤ m
-  value-large m e = omega (arith, value-goes, value_grows (v * 10 + (get_or s i 0 - 48)) (drop (i + 1) s), e)
+module _ (s : List ℕ) (p v i : ℕ) (r : Read s p v i) where
+  pub number-ends : run is_digit (drop i s) ≡ []
+      → shown s (record { kind = Number v; place = p; after = i }) ≡ number_token p (run is_digit (drop p s))
+  unfolding number_token value_from
+  number-ends e =
+      let is : v ≡ value_from 0 (run is_digit (drop p s)) = ap (value_from v) (sym e) ∙ r.value in
+      rw (lt-ltb (value_from 0 (run is_digit (drop p s))) (2 ^ 64) (omega (arith, r.fits)))
+      (placed (ap number is) refl (run_ends is_digit s i _ r.ends e))
 
--- behind the last digit
-pub value-ends : (s : List ℕ) (v i m : ℕ) → length s ≤ i → value_from v (drop i s) ≡ m → v ≡ m
-unfolding value_from
-value-ends s v i m h e = sym (ap (value_from v) (drop_of_length-le s {i = i} h)) ∙ e
+  module _ (here : i < length s) (digit : is_digit (get_or s i 0) ≡ true) where
+    value-here : value_from (v * 10 + (get_or s i 0 - 48)) (run is_digit (drop (i + 1) s)) ≡ value_from 0 (run is_digit (drop p s))
+    unfolding value_from
+    value-here = ap (value_from v) (sym (run_at is_digit s i here digit)) ∙ r.value
 
--- a clause about an `Option` that is `None`
-pub at-none : (o : Option ℕ) (P : Type 0) (Q : ℕ → Type 0) → o ≡ None → P → MatchOption o P Q
-at-none o P Q e p = rw e p
+    pub number-goes : v * 10 + (get_or s i 0 - 48) < 2 ^ 64 → Read s p (v * 10 + (get_or s i 0 - 48)) (i + 1)
+    number-goes h = record { ends = run-goes is_digit s i _ r.ends here digit; value = value-here; fits = h }
 
--- the digits at p end at q
-module _ (s : List ℕ) (p q : ℕ) (ends : q ≡ p + length (run is_digit (drop p s))) where
-  cut : take (q - p) (drop p s) ≡ run is_digit (drop p s)
-  cut =
-      let n : q - p ≡ length (run is_digit (drop p s)) = omega (arith, ends) in
-      rw n (take-run is_digit (drop p s))
+    pub number-large : 2 ^ 64 ≤ v * 10 + (get_or s i 0 - 48) → knot p ≡ number_token p (run is_digit (drop p s))
+    unfolding number_token
+    number-large h =
+        rw
+        (le-ltb
+        (value_from 0 (run is_digit (drop p s)))
+        (2 ^ 64)
+        (omega (arith, value-here, value_grows (v * 10 + (get_or s i 0 - 48)) (run is_digit (drop (i + 1) s)))))
 
-  pub digits-alone : run is_digit (take (q - p) (drop p s)) ≡ take (q - p) (drop p s)
-  digits-alone = rw cut (run-run is_digit (drop p s))
+-- the number at p, read over the bytes that are left of the text from p on, up to the one at i
+module _ (s : List ℕ) (p v i : ℕ) (r : Read s p v (p + i)) where
+  pub left-ends : length (drop p s) ≤ i → i ≤ length (drop p s) → p ≤ length s
+      → shown s (record { kind = Number v; place = p; after = length s }) ≡ number_token p (run is_digit (drop p s))
+  left-ends h l q =
+      let e : p + i ≡ length s = omega (arith, length-drop p s) in
+      rw (sym e) (number-ends s p v (p + i) r (run_past is_digit s (p + i) (omega (arith, e))))
 
-  pub number-fits : (v : ℕ) → v < 2 ^ 64 → v ≡ value_from 0 (take (q - p) (drop p s))
-      → shown s (record { kind = Number v; place = p; after = q }) ≡ number_token p (run is_digit (drop p s))
-  unfolding number_token
-  number-fits v f e =
-      let is : v ≡ value_from 0 (run is_digit (drop p s)) = e ∙ ap (value_from 0) cut in
-      rw (lt-ltb (value_from 0 (run is_digit (drop p s))) (2 ^ 64) (omega (arith, is))) (placed (ap number is) refl ends)
+  module _ (here : i < length (drop p s)) where
+    byte : get_or (drop p s) i 0 ≡ get_or s (p + i) 0
+    byte = get_or-drop p s i 0
 
-  pub number-large : 2 ^ 64 ≤ value_from 0 (take (q - p) (drop p s)) → knot p ≡ number_token p (run is_digit (drop p s))
-  unfolding number_token
-  number-large h = rw (le-ltb (value_from 0 (run is_digit (drop p s))) (2 ^ 64) (rw cut at h))
+    within : p + i < length s
+    within = omega (arith, length-drop p s)
+
+    pub left-stops : is_digit (get_or (drop p s) i 0) ≡ false
+        → shown s (record { kind = Number v; place = p; after = p + i }) ≡ number_token p (run is_digit (drop p s))
+    left-stops d = number-ends s p v (p + i) r (run-stops is_digit s (p + i) within (ap is_digit (sym byte) ∙ d))
+
+    pub left-goes : is_digit (get_or (drop p s) i 0) ≡ true → (w : ℕ) → w ≡ v * 10 + (get_or (drop p s) i 0 - 48) → w < 2 ^ 64
+        → Read s p w (p + (i + 1))
+    left-goes d w e f =
+        let g : w ≡ v * 10 + (get_or s (p + i) 0 - 48) = e ∙ ap (λ (b : ℕ). v * 10 + (b - 48)) byte in
+        let j : p + (i + 1) ≡ p + i + 1 = omega arith in
+        rw (g, j) (number-goes s p v (p + i) r within (ap is_digit (sym byte) ∙ d) (rw g at f))
+
+    pub left-large : is_digit (get_or (drop p s) i 0) ≡ true → 2 ^ 64 ≤ v * 10 + (get_or (drop p s) i 0 - 48)
+        → knot p ≡ number_token p (run is_digit (drop p s))
+    left-large d h = number-large s p v (p + i) r within (ap is_digit (sym byte) ∙ d) (rw byte at h)

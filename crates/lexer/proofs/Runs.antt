@@ -104,16 +104,6 @@ module _ (p : ℕ → Bool) where
       go true e ih = rw (run_on b s e, e) ih
       go false e ih = rw (run-off b s e)
 
-  -- a run of a run is itself
-  pub run-run : (s : List ℕ) → run p (run p s) ≡ run p s
-  unfolding run
-  run-run [] = refl
-  run-run (b ∷ s) = go (p b) refl (run-run s)
-    where
-      go : (t : Bool) → p b ≡ t → run p (run p s) ≡ run p s → run p (run p (b ∷ s)) ≡ run p (b ∷ s)
-      go true e ih = rw (run_on b s e) (run_on b (run p s) e ∙ ap (λ (l : List ℕ). b ∷ l) ih)
-      go false e ih = rw (run-off b s e)
-
   -- a run is the longest: bytes that all pass do not reach past it
   pub run-longest : (n : ℕ) (s : List ℕ) → n ≤ length s → all p (take n s) ≡ true → n ≤ length (run p s)
   unfolding run

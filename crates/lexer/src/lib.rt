@@ -2,11 +2,11 @@
 // What a token is stands in specs/Tokens.antt, and specs/Shown.antt says what the types here stand for in its terms.
 #![tactic(auto)]
 
-ghost use Rattle.std.specs.Prelude.{◌≡◌, ◌&&◌, ℕ, Bool, ◌+◌, ◌^◌, ◌<◌, ◌≤◌, List, length, get_or, drop, MatchOption};
+ghost use Rattle.std.specs.Prelude.{◌≡◌, ◌&&◌, ℕ, Bool, true, ◌+◌, ◌-◌, ◌*◌, ◌^◌, ◌<◌, ◌≤◌, List, length, get_or, drop, MatchOption};
 ghost use Rattle.lexer.specs.Bytes.{bytes, same, lookup, run, is_digit, is_name_byte};
 ghost use Rattle.lexer.specs.Classes.{begins, class_of};
 ghost use Rattle.lexer.specs.Inner.{Computes, second_byte};
-ghost use Rattle.lexer.specs.Tokens.{spelling, entries, rule_words, or_name, knot, value_from, name_token, number_token, sign_token, token_at};
+ghost use Rattle.lexer.specs.Tokens.{spelling, entries, rule_words, or_name, knot, name_token, number_token, sign_token, token_at};
 ghost use Rattle.lexer.specs.Shown.{sign_number, word_shown, is_reserved, reserved_shown, kind_shown, shown};
 
 mod classes;
@@ -38,6 +38,7 @@ pub enum Sign {
 
 impl Sign {
     /// The sign's number in the order of T6, from 0.
+    // no plainer as `From`: the name tells which number it is
     pub fn number(self) -> u8
         ensures { result ≡ sign_number self }
     {
@@ -173,6 +174,7 @@ pub struct Token {
 const LONGEST_NAME: usize = 16;
 
 /// Whether two slices hold the same bytes.
+// kept beside `==`, which is its body: other crates call it
 pub fn equal(a: &[u8], b: &[u8]) -> bool
     ensures { result ≡ same a.now b.now }
 {
@@ -240,33 +242,37 @@ fn name_at(reserved: Reserved, text: &[u8], place: usize) -> Token
     }
 }
 
-// The value of digits, if it is below 2^64.
-fn value_of(digits: &[u8]) -> Option<u64>
-    requires { run is_digit digits.now ≡ digits.now }
-    ensures { MatchOption result (2 ^ 64 ≤ value_from 0 digits.now) (λ v. v ≡ value_from 0 digits.now) }
+// The value of digits that have the value `value` and of one more behind them, if it is below 2^64.
+fn with_digit(value: u64, b: u8) -> Option<u64>
+    requires { is_digit b ≡ true }
+    ensures { MatchOption result (2 ^ 64 ≤ value * 10 + (b - 48)) (λ v. v ≡ value * 10 + (b - 48)) }
 {
-    let mut value: u64 = 0;
-    for digit in digits {
-        value = value
-            .checked_mul(10)?
-            .checked_add(u64::from(*digit - b'0'))?;
-    }
-    Some(value)
+    value.checked_mul(10)?.checked_add(u64::from(b - b'0'))
 }
 
-// The number at `place`.
+// The number at `place`. Behind the digit that makes it too large nothing is looked at.
 fn number_at(text: &[u8], place: usize) -> Token
     requires { place ≤ length text.now }
     ensures { shown text.now result ≡ number_token place (run is_digit (drop place text.now)) }
 {
-    let after = run_end(text, place, is_digit);
-    match value_of(&text[place..after]) {
-        Some(value) => Token {
-            kind: Kind::Number(value),
-            place,
-            after,
-        },
-        None => knot_at(place),
+    let mut value: u64 = 0;
+    for (i, b) in text[place..].iter().enumerate() {
+        if !is_digit(*b) {
+            return Token {
+                kind: Kind::Number(value),
+                place,
+                after: place + i,
+            };
+        }
+        let Some(longer) = with_digit(value, *b) else {
+            return knot_at(place);
+        };
+        value = longer;
+    }
+    Token {
+        kind: Kind::Number(value),
+        place,
+        after: text.len(),
     }
 }
 

@@ -24,6 +24,8 @@ fn weigh_word(w: Word) -> u64
     }
 }
 
+// What a token weighs, by its kind.
+// no switch on which step to run, but a `match` on an enum
 fn weigh(k: Kind) -> u64
     ensures { result ≡ weight (kind_shown [] k) }
 {
@@ -58,6 +60,7 @@ pub extern "C" fn lexer_bench_checksum(text: &[u8]) -> u64
 {
     let mut at = 0;
     let mut sum: u64 = 0;
+    // no plainer as a `for`: no index is counted, each token tells where the next is looked for
     loop {
         let t = lexer::token_at(lexer::rule_words(), text, at);
         sum = add(sum, t);

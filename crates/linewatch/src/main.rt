@@ -76,7 +76,9 @@ fn read_full(input: &mut impl Read, buffer: &mut [u8]) -> usize
 }
 
 // What is read from a file into the buffer.
-fn read_file<'a>(rt: &impl Files, name: &str, buffer: &'a mut [u8]) -> &'a [u8] {
+fn read_file<'a>(rt: &impl Files, name: &str, buffer: &'a mut [u8]) -> &'a [u8]
+    ensures { length result.now ≤ length buffer.old }
+{
     match fs::open(rt, name) {
         Ok(mut file) => {
             let count = read_full(&mut file, buffer);

@@ -17,7 +17,7 @@ fn link_value(link: u64, number: u64, word: u64) -> u64
 }
 
 // What the walk judges by: the tables, the tick's word and the one before, and the store values before it.
-// Speed: the marks and the layout go beside it; with them in it a tick took 4 to 7 hundredths longer.
+// Speed: the marks and the layout go beside it; with them in it a tick took 3 to 7 hundredths longer.
 #[derive(Clone, Copy)]
 pub(crate) struct Tick<'a> {
     pub(crate) tables: &'a [[u64; 1024]; 4],

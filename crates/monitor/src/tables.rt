@@ -77,23 +77,20 @@ fn unthreaded_of(threads: &[u64; 256]) -> usize
 pub fn tables_of(watch: &Watch) -> [[u64; 1024]; 4]
     ensures { result ≡ tables_of watch.now }
 {
-    let rows = watch.table;
-    let links = watch.links;
-    let numbers = watch.numbers;
     let mut letters = [0u64; 1024];
     place(&watch.look, 0, &mut letters);
     place(&watch.want, WANTED, &mut letters);
     place(&watch.held, HELD, &mut letters);
-    let threads = threads_of(&rows, watch.rows);
+    let threads = threads_of(&watch.table, watch.rows);
     place(&threads, THREADS, &mut letters);
-    let writers = writers_of(&links, 256);
+    let writers = writers_of(&watch.links, 256);
     let threaded = threaded_of(&threads);
     let unthreaded = unthreaded_of(&threads);
     letters[THREADS] = quad(threads[0] as usize, writers, threaded, unthreaded);
     let mut tables = [[0u64; 1024]; 4];
-    tables[ROWS] = rows;
-    tables[LINKS] = links;
-    tables[NUMBERS] = numbers;
+    tables[ROWS] = watch.table;
+    tables[LINKS] = watch.links;
+    tables[NUMBERS] = watch.numbers;
     tables[LETTERS] = letters;
     tables
 }

@@ -98,7 +98,6 @@ module _ (P M : List ℕ) (count : ℕ) (A₀ : Lists) where
   }
 
   module _ (T : List ℕ) (L : LetterLists) (S F : List ℕ) (i row index : ℕ) (a : AllGoing P M count A₀ (lists T L S F) i row index) where
-    -- row and letter numbers are small
     pub going_end : (i < count → ⊥) → AllOpened P M count A₀ (lists T L S F) (Ok (record { rows = row; letters = index }))
     unfolding OpenedBy misshapen codes_all starts_by
     going_end l c ms w b =

@@ -1,15 +1,35 @@
 -- A step of the walk over the rows, by the row's kind. Assumes nothing.
 use mathlib.Core.List.{List, map}
-use mathlib.Core.Path.{◌≡◌, refl, sym, ap, ◌∙◌}
+use mathlib.Core.Path.{◌≡◌, refl, sym, ap, ◌∙◌, subst}
 use Prim.Native.Nat.{ℕ, zero, suc, ◌-◌}
 use native.Mathlib.Omega.{arith}
 use lib.ListN.{get_or, get_or-map}
 use borrow.Author.Tests.{ne_eqb}
-use Rattle.shape.specs.Walk.{by_kind, by_operator, walk_at}
+use Rattle.words.specs.declared.rows.RowKind.{RowKind}
+use Rattle.words.specs.declared.rows.RowKind.TheVariants.{Letter, Sequence, Alternative, Star, Pipe}
+use Rattle.shape.specs.Walk.{CountsAs, by_kind, by_operator, walk_at}
 
 -- what a row's word has is what the list of it has at that row
 pub part_at : (f : ℕ → ℕ) → f 0 ≡ 0 → (T : List ℕ) (row : ℕ) {w k : ℕ} → w ≡ get_or T row 0 → k ≡ f w → k ≡ get_or (map f T) row 0
 part_at f z T row e q = q ∙ ap f e ∙ sym (get_or-map f T row 0) ∙ ap (get_or (map f T) row) z
+
+-- what a row counts as: its kind told; no letter and no star; and none of the four others
+pub counted : (K J : RowKind) (k : ℕ) → CountsAs K k → K ≡ J → CountsAs J k
+counted K J k h e = subst (λ (x : RowKind). CountsAs x k) e h
+
+pub is_two : (K : RowKind) (k : ℕ) → CountsAs K k → (K ≡ Letter → ⊥) → (K ≡ Star → ⊥) → (k ≡ 0 → ⊥) × (k ≡ 3 → ⊥)
+is_two Letter k h a d = absurd (a refl)
+is_two Sequence k h a d = (λ z. omega arith, λ z. omega arith)
+is_two Alternative k h a d = (λ z. omega arith, λ z. omega arith)
+is_two Star k h a d = absurd (d refl)
+is_two Pipe k h a d = (h.0, h.3)
+
+pub is_pipe : (K : RowKind) (k : ℕ) → CountsAs K k → (K ≡ Letter → ⊥) → (K ≡ Sequence → ⊥) → (K ≡ Alternative → ⊥) → (K ≡ Star → ⊥) → CountsAs Pipe k
+is_pipe Letter k h a b c d = absurd (a refl)
+is_pipe Sequence k h a b c d = absurd (b refl)
+is_pipe Alternative k h a b c d = absurd (c refl)
+is_pipe Star k h a b c d = absurd (d refl)
+is_pipe Pipe k h a b c d = h
 
 module _ {A : Type 0} (k : ℕ) (x y z : A) where
   pub by-letter : k ≡ 0 → by_kind k x y z ≡ x

@@ -67,23 +67,18 @@ pub(crate) fn walk<S: Summary, L: Fn(usize) -> S>(
     let left = part1(head);
     let right = part2(head);
     let below = fuel - 1;
-    match kind_of(head) {
-        RowKind::Letter => letter(left),
-        RowKind::Star => walk(table, letter, below, left).star(),
-        RowKind::Sequence => {
-            let e = walk(table, letter, below, left);
-            let f = walk(table, letter, below, right);
-            e.seq(f)
-        }
-        RowKind::Alternative => {
-            let e = walk(table, letter, below, left);
-            let f = walk(table, letter, below, right);
-            e.alt(f)
-        }
-        RowKind::Pipe => {
-            let e = walk(table, letter, below, left);
-            let f = walk(table, letter, below, right);
-            e.pipe(f)
-        }
+    let kind = kind_of(head);
+    if kind == RowKind::Letter {
+        return letter(left);
+    }
+    let e = walk(table, letter, below, left);
+    if kind == RowKind::Star {
+        return e.star();
+    }
+    let f = walk(table, letter, below, right);
+    match kind {
+        RowKind::Sequence => e.seq(f),
+        RowKind::Alternative => e.alt(f),
+        _ => e.pipe(f),
     }
 }

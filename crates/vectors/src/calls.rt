@@ -2,7 +2,7 @@
 ghost use Rattle.std.specs.Prelude.{◌≤◌, length};
 
 use monitor::{Fault, look, take};
-use rules::{Counts, Refused, Watch};
+use rules::{Counts, Refused, Start, Watch};
 use sheet::totals;
 use std::io;
 use std::io::{Cursor, Write};
@@ -51,47 +51,43 @@ fn put_outcome(page: &mut impl Write, outcome: Result<Counts, Refused>) -> io::R
     }
 }
 
-// The line of a call, and the watch after it. A look leaves the watch; a take's line has the rows that it touched.
-fn put_call(page: &mut impl Write, watch: Watch, call: Call) -> io::Result<Watch> {
+// The line of a call, and the watch moved on by a take, whose line has the rows that it touched. A look leaves the watch.
+fn put_call(page: &mut impl Write, watch: &mut Watch, call: Call) -> io::Result<()> {
     match call {
         Call::Look(word) => {
             write!(page, "look ")?;
-            put_answer(page, look(watch, word))?;
-            writeln!(page, "")?;
-            Ok(watch)
+            put_answer(page, look(*watch, word))?;
+            writeln!(page, "")
         }
         Call::Take(word) => {
-            let taken = take(watch, word);
-            let touched = taken.touched;
+            let taken = take(*watch, word);
+            *watch = taken.watch;
             write!(page, "take ")?;
             put_answer(page, taken.answer)?;
-            writeln!(page, " touched {touched}")?;
-            Ok(taken.watch)
+            writeln!(page, " touched {}", taken.touched)
         }
     }
 }
 
-// A line for each call, and the watch after all.
-fn put_calls(page: &mut impl Write, opened: Watch, calls: &[u8]) -> io::Result<Watch> {
-    let mut watch = opened;
+// A line for each call, which the watch goes through.
+fn put_calls(page: &mut impl Write, watch: &mut Watch, calls: &[u8]) -> io::Result<()> {
     for bytes in calls.chunks(CALL) {
         let Some(call) = call_of(bytes) else {
-            return Ok(watch);
+            return Ok(());
         };
-        watch = put_call(page, watch, call)?;
+        put_call(page, watch, call)?;
     }
-    Ok(watch)
+    Ok(())
 }
 
-// The first line for the text and, if it is accepted, one for each call: the watch after them.
-fn put_lines(page: &mut impl Write, text: &[u8], calls: &[u8]) -> io::Result<Option<Watch>> {
-    let start = rules::open(text);
+// The first line for a text and, if it was accepted, one for each call: whether it was.
+fn put_lines(page: &mut impl Write, start: &mut Start, calls: &[u8]) -> io::Result<bool> {
     put_outcome(page, start.outcome)?;
     if start.outcome.is_err() {
-        return Ok(None);
+        return Ok(false);
     }
-    let watch = put_calls(page, start.watch, calls)?;
-    Ok(Some(watch))
+    put_calls(page, &mut start.watch, calls)?;
+    Ok(true)
 }
 
 // The totals of the watch, if they fit: how many bytes of the page they take.
@@ -108,14 +104,15 @@ fn put_totals(page: &mut [u8], watch: Watch) -> usize
 
 // These lines and the totals: how many bytes of the page they take. What does not fit is left out.
 pub fn print(text: &[u8], calls: &[u8], page: &mut [u8]) -> usize {
+    let mut start = rules::open(text);
     let mut lines = Cursor::new(&mut page[..]);
-    let put = put_lines(&mut lines, text, calls);
+    let put = put_lines(&mut lines, &mut start, calls);
     let end = lines.position() as usize;
-    let Ok(Some(watch)) = put else {
+    let Ok(true) = put else {
         return end;
     };
     if page.len() < end {
         return end;
     }
-    end + put_totals(&mut page[end..], watch)
+    end + put_totals(&mut page[end..], start.watch)
 }

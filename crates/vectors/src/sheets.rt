@@ -8,6 +8,9 @@ const PAGE: usize = 32768;
 // What a page holds before: a byte that no sheet has.
 const BLANK: u8 = 0xa5;
 
+// A blank page. A part of it is compared with that many bytes at once.
+static BLANKS: [u8; PAGE] = [BLANK; PAGE];
+
 // A text and a trace with a name, and the sheet that is right for them.
 #[derive(Clone, Copy)]
 pub struct Case<'a> {
@@ -20,7 +23,7 @@ pub struct Case<'a> {
 // Whether the page holds those bytes, and is blank behind them.
 fn holds(page: &[u8], bytes: &[u8]) -> bool {
     match page.strip_prefix(bytes) {
-        Some(behind) => behind.iter().all(|byte| *byte == BLANK),
+        Some(behind) => BLANKS.starts_with(behind),
         None => false,
     }
 }

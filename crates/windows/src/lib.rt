@@ -2,7 +2,7 @@
 // (specs/Windows.antt). A tick is one number, the mask, whose bit k says whether a letter of limit k was met there.
 #![tactic(auto)]
 
-ghost use Rattle.std.specs.Prelude.{◌≡◌, ◌<◌, ℕ, List, min, if◌then◌else◌, nat_eq, slice_index, IfSome};
+ghost use Rattle.std.specs.Prelude.{◌≡◌, ◌<◌, ℕ, List, min, if◌then◌else◌, nat_eq, slice_index, bit_or, IfSome};
 ghost use Rattle.windows.specs.Windows.{bit_of, counted_in, met_mask, limits_in, next_count, first_beyond, shown_limit, counted, passed, opened_windows};
 
 use words::{part1, part2};
@@ -37,18 +37,18 @@ pub const COUNTED: usize = 320;
 trait Counted {
     ghost counted: { Self → List ℕ };
 
-    // Those of one letter.
-    fn limits_of(&self, letter: usize) -> u8
+    // A mask with those of one letter too, if it is marked.
+    fn with_letter(&self, mask: u8, mark: u8, letter: usize) -> u8
         requires { letter < 256 }
-        ensures { result ≡ slice_index (counted self.now) letter };
+        ensures { result ≡ bit_or mask (if nat_eq mark 0 then 0 else slice_index (counted self.now) letter) };
 }
 
 // A byte for each letter.
 impl Counted for [u8; 256] {
     ghost counted = { λ bytes. bytes };
 
-    fn limits_of(&self, letter: usize) -> u8 {
-        self[letter]
+    fn with_letter(&self, mask: u8, mark: u8, letter: usize) -> u8 {
+        mask | if_marked(mark, self[letter])
     }
 }
 
@@ -56,8 +56,8 @@ impl Counted for [u8; 256] {
 impl Counted for [u64; 1024] {
     ghost counted = { counted_in };
 
-    fn limits_of(&self, letter: usize) -> u8 {
-        (self[COUNTED + letter] % 256) as u8
+    fn with_letter(&self, mask: u8, mark: u8, letter: usize) -> u8 {
+        mask | if_marked(mark, (self[COUNTED + letter] % 256) as u8)
     }
 }
 
@@ -67,7 +67,7 @@ fn limits_met<C: Counted>(letters: usize, memory: &[u8; 1280], counted: &C) -> u
 {
     let mut mask: u8 = 0;
     for letter in 0..letters.min(256) {
-        mask |= if_marked(memory[1024 + letter], counted.limits_of(letter));
+        mask = counted.with_letter(mask, memory[1024 + letter], letter);
     }
     mask
 }

@@ -1,5 +1,5 @@
 -- The answers to the goals of `windows::limits_met`.
-use Rattle.std.proofs.Common.{ℕ, ◌+◌, cond, eqb, get_or, refl, ap, ◌∙◌}
+use Rattle.std.proofs.Common.{refl, ◌∙◌}
 use Rattle.windows.proofs.Steps.{met-more}
 use Rattle.windows.specs.Windows.{met_mask}
 use Rattle.windows.proofs.limits_met.Goals as goal
@@ -12,5 +12,4 @@ pub loop-letter-preserved : goal.loop-letter-preserved
 loop-letter-preserved g c =
     let l = c.loop-letter in
     let a = c.args in
-    let e = c.if_marked-mask.ensures ∙ ap (λ (x : ℕ). cond (eqb (get_or a.memory.now (1024 + l.letter) 0) 0) 0 x) c.limits_of.ensures in
-    met-more a.memory.now (g.C.Counted.counted a.counted.now) l.letter _ l.mask _ l.invariant e refl
+    c.with_letter-mask.ensures ∙ met-more a.memory.now (g.C.Counted.counted a.counted.now) l.letter _ l.mask _ l.invariant refl refl
